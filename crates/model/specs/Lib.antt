@@ -1,0 +1,11 @@
+pub mod Tests
+pub mod Steps
+pub mod Answers
+pub mod Bytes
+pub mod Calls
+pub mod Vectors
+pub mod History
+pub mod Promises
+pub mod Worked
+pub mod Bench
+pub mod Shortcuts
