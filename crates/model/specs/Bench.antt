@@ -34,7 +34,7 @@ thenMet = after 2 (update 0 ∷ update 0 ∷ update 0 ∷ meet 0 1 ∷ [])
 unfoldable pub thenUpdated : List ℕ
 thenUpdated = after 2 (update 0 ∷ update 0 ∷ update 0 ∷ meet 0 1 ∷ update 0 ∷ [])
 
--- N = 3, the program's calls: U 0, U 2, M 1 2, M 0 1; then 1 meets 2.
+-- N = 3, the program's calls: U 0, U 2, M 1 2, M 0 1, with its comparisons in between; then 1 meets 2.
 unfoldable pub program : List ℕ
 program = after 3 (update 0 ∷ update 2 ∷ meet 1 2 ∷ meet 0 1 ∷ [])
 
@@ -78,10 +78,22 @@ cases =
     }
     ∷ record {
       name = P7;
-      got = sliceRows program 0 2 ∷ sliceRows program 1 2 ∷ compared program 1 2 ∷ met program 1 1 ∷ compared program 0 1 ∷ [];
+      got =
+          sliceRows program 0 2
+          ∷ sliceRows program 1 2
+          ∷ compared (after 3 (update 0 ∷ [])) 0 1
+          ∷ compared (after 3 (update 0 ∷ update 2 ∷ [])) 0 2
+          ∷ compared (after 3 (update 0 ∷ update 2 ∷ meet 1 2 ∷ [])) 1 2
+          ∷ compared program 1 2
+          ∷ met program 1 1
+          ∷ compared program 0 1
+          ∷ [];
       wanted =
           rows ((1 ∷ []) ∷ (1 ∷ []) ∷ (1 ∷ 0 ∷ []) ∷ [])
           ∷ rows ((1 ∷ []) ∷ (1 ∷ []) ∷ (1 ∷ 0 ∷ []) ∷ [])
+          ∷ said (ordered 2)
+          ∷ said (ordered 3)
+          ∷ said (ordered 0)
           ∷ said (ordered 2)
           ∷ said (refused 6)
           ∷ said (ordered 0)

@@ -3,7 +3,7 @@
 use mathlib.Core.Path.{_≡_, sym, _∙_}
 use mathlib.Core.List.{List}
 use Prim.Native.Nat.{ℕ}
-use Rattle.model.specs.Answers.{Said, saidDone}
+use Rattle.model.specs.Answers.{Said, saidDone, done-once}
 use Rattle.model.specs.declared.Rows.{Rows}
 use Rattle.model.specs.declared.ReadRows.{ReadRows}
 
@@ -31,3 +31,9 @@ handed-once x y = (x .within ∙ sym (y .within), x .at ∙ sym (y .at), x .byte
 pub record Read (answer : Said) (gives : Rows) (r : ReadRows) : Type 0 where
   pub answers : saidDone (r .answer) ≡ answer
   pub rows : r .rows ≡ gives
+
+pub read-once : {answer : Said} {gives : Rows} {r r′ : ReadRows} → Read answer gives r → Read answer gives r′ → r ≡ r′
+read-once {r = r} {r′ = r′} x y =
+    let same : r .answer ≡ r′ .answer = done-once (r .answer) (r′ .answer) (x .answers ∙ sym (y .answers)) in
+    let rows : r .rows ≡ r′ .rows = x .rows ∙ sym (y .rows) in
+    λ i. record { answer = same i; rows = rows i }
