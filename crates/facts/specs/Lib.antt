@@ -1,0 +1,6 @@
+pub mod Cases
+pub mod Numbers
+pub mod Members
+pub mod Keeping
+pub mod Turns
+pub mod Mapped
