@@ -1,1 +1,14 @@
-// Lists cut into equal parts: the definitions and their laws stand in specs/, this crate has no code.
+// Equal parts of a lent list: one handed back, one written. specs/ has the definitions and their laws.
+ghost use Prim.Native.Nat.{_+_, _*_, _≤_};
+ghost use lib.ListN.{length};
+ghost use Rattle.parts.specs.Parts.{part};
+ghost use Rattle.parts.specs.Handed.{Handed};
+
+// Part k of a list that is cut into parts of w bytes, where it stands.
+pub fn part_at(s: &[u8], w: usize, k: usize) -> &[u8]
+    requires { ⌜ k * w + w ≤ length (now s) ⌝ }
+    ensures { λ r. ⌜ Handed (s .entry .ptr .0) (s .entry .ptr .1 + k * w) (part w k (now (s .entry))) (r .ptr) (now r) ⌝ }
+{
+    let a = k * w;
+    &s[a..a + w]
+}
