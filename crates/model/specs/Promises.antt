@@ -1,5 +1,5 @@
 -- What a public function promises: records that its `ensures` cites, each with the law that two outcomes which satisfy it are the
--- same. Assumes nothing.
+-- same. A part that is handed back is promised by `Handed` of parts. Assumes nothing.
 use mathlib.Core.Path.{_≡_, sym, _∙_}
 use mathlib.Core.List.{List}
 use Prim.Native.Nat.{ℕ}
@@ -16,16 +16,6 @@ pub record Owed (answer : Said) (leaves : List (List ℕ)) (said : Said) (lent :
 pub owed-once : {answer : Said} {leaves : List (List ℕ)} {said said′ : Said} {lent lent′ : List (List ℕ)}
     → Owed answer leaves said lent → Owed answer leaves said′ lent′ → (said ≡ said′) × (lent ≡ lent′)
 owed-once x y = (x .answers ∙ sym (y .answers), x .bytes ∙ sym (y .bytes))
-
--- A part that is handed back is those bytes in that place: the buffer it lies in, where it starts there, and what it holds.
-pub record Handed (block start : ℕ) (holds : List ℕ) (ptr : ℕ × ℕ) (now : List ℕ) : Type 0 where
-  pub within : ptr .0 ≡ block
-  pub at : ptr .1 ≡ start
-  pub bytes : now ≡ holds
-
-pub handed-once : {block start : ℕ} {holds : List ℕ} {ptr ptr′ : ℕ × ℕ} {now now′ : List ℕ}
-    → Handed block start holds ptr now → Handed block start holds ptr′ now′ → (ptr .0 ≡ ptr′ .0) × (ptr .1 ≡ ptr′ .1) × (now ≡ now′)
-handed-once x y = (x .within ∙ sym (y .within), x .at ∙ sym (y .at), x .bytes ∙ sym (y .bytes))
 
 -- Reading owes its answer and the rows, or the blank beside a refusal.
 pub record Read (answer : Said) (gives : Rows) (r : ReadRows) : Type 0 where
