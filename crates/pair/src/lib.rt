@@ -7,9 +7,11 @@ ghost use mathlib.Core.Path.{_≡_};
 ghost use mathlib.Core.Bool.{cond};
 ghost use Prim.Native.Nat.{_+_, _*_, _<_, _≤_};
 ghost use lib.ListN.{length};
-ghost use Rattle.model.specs.Steps.{sliceAnswer, answerAt, orderOf, isBehind, isAhead};
+ghost use Rattle.parts.specs.Handed.{Handed};
+ghost use Rattle.model.specs.Steps.{sliceAnswer, answerAt, orderOf, isBehind, isAhead, winningRow};
 ghost use Rattle.model.specs.Bytes.{recordRows};
-ghost use Rattle.pair.specs.Pair.{PairShown, pairCompared};
+ghost use Rattle.slice.specs.Shown.{rowPlace};
+ghost use Rattle.pair.specs.Pair.{PairShown, pairCompared, bWinsSlice};
 
 // The answer of the principal rows x of a and y of b.
 pub fn slice_answer(x: &[u8], y: &[u8]) -> SliceAnswer
@@ -38,9 +40,7 @@ pub fn answer_at(x: &[u8], y: &[u8], n: usize, a: usize, b: usize, p: usize) -> 
     requires { ⌜ PairShown n a b (now x) (now y) × (p < n) ⌝ }
     ensures { λ r. ⌜ r ≡ answerAt a b (recordRows n (now (x .entry))) (recordRows n (now (y .entry))) p ⌝ }
 {
-    let s = slice::slice_at(x, n, p);
-    let t = slice::slice_at(y, n, p);
-    slice_answer(slice::row_in(s, n, a), slice::row_in(t, n, b))
+    slice_answer(slice::row_of(x, n, p, a), slice::row_of(y, n, p, b))
 }
 
 // One more if the slice is behind.
@@ -101,4 +101,28 @@ pub fn compare_pair(x: &[u8], y: &[u8], n: usize, a: usize, b: usize) -> Compare
         p += 1;
     }
     Compared::As(order_of(behind, ahead))
+}
+
+// b wins slice p if a's head is in b's principal row, so b wins a level slice.
+pub fn b_wins(x: &[u8], y: &[u8], n: usize, a: usize, b: usize, p: usize) -> bool
+    requires { ⌜ PairShown n a b (now x) (now y) × (p < n) ⌝ }
+    ensures { λ r. ⌜ r ≡ bWinsSlice a b p (recordRows n (now (x .entry))) (recordRows n (now (y .entry))) ⌝ }
+{
+    let h = slice::row_of(x, n, p, a)[0];
+    row::among(slice::row_of(y, n, p, b), h)
+}
+
+// The winning principal row W of slice p, its symbols only, as a part of the record it stands in.
+pub fn winning<'a>(x: &'a [u8], y: &'a [u8], n: usize, a: usize, b: usize, p: usize) -> &'a [u8]
+    requires { ⌜ PairShown n a b (now x) (now y) × (p < n) ⌝ }
+    ensures { λ r. ⌜ Handed
+        (cond (bWinsSlice a b p (recordRows n (now (x .entry))) (recordRows n (now (y .entry)))) (y .entry .ptr .0) (x .entry .ptr .0))
+        (cond (bWinsSlice a b p (recordRows n (now (x .entry))) (recordRows n (now (y .entry)))) (y .entry .ptr .1 + rowPlace n p b) (x .entry .ptr .1 + rowPlace n p a))
+        (winningRow a b (recordRows n (now (x .entry)) p) (recordRows n (now (y .entry)) p))
+        (r .ptr) (now r) ⌝ }
+{
+    if b_wins(x, y, n, a, b, p) {
+        return slice::row_of(y, n, p, b);
+    }
+    slice::row_of(x, n, p, a)
 }

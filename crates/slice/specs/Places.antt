@@ -9,7 +9,7 @@ use lib.ListN.{length, getD, take, drop, length-drop, length-take}
 use lib.Seq.{take-all, length-take-le}
 use Rattle.parts.specs.Parts.{part, room, length-part}
 use Rattle.model.specs.Tests.{head}
-use Rattle.model.specs.Bytes.{rowSize, sliceSize, recordSize, symbolsIn, rowIn, sliceIn}
+use Rattle.model.specs.Bytes.{rowSize, sliceSize, recordSize, symbolsIn, rowIn, sliceIn, recordRows}
 use Rattle.slice.specs.Shown.{RowShown, SliceShown, RecordShown}
 
 -- The sizes for at most eight copies.
@@ -49,3 +49,11 @@ module _ {n : ℕ} {s : List ℕ} (shown : SliceShown n s) (k : ℕ) (less : k <
   row-length =
       length-take-le (getD (part (rowSize n) k s) 0 0) (drop 1 (part (rowSize n) k s))
       (rw length-drop (omega (arith, row-long, shown .rows k less .high)))
+
+-- A row of a checked record has a symbol, and at most N.
+pub row-of-length : {n : ℕ} {r : List ℕ} → RecordShown n r → (p k : ℕ) → p < n → k < n
+    → (1 ≤ length (recordRows n r p k)) × (length (recordRows n r p k) ≤ n)
+unfolding recordRows
+row-of-length shown p k lp lk =
+    let s : SliceShown _ _ = shown .slices p lp in
+    (omega (arith, row-length s k lk, s .rows k lk .low), omega (arith, row-length s k lk, s .rows k lk .high))

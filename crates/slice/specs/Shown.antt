@@ -4,7 +4,7 @@ use mathlib.Core.List.{List}
 use Prim.Native.Nat.{ℕ, _+_, _*_, _≤_, _<_}
 use lib.ListN.{length, getD}
 use Rattle.parts.specs.Parts.{part}
-use Rattle.model.specs.Bytes.{rowSize, sliceSize, recordSize, rowBytes, symbolsIn, sliceIn}
+use Rattle.model.specs.Bytes.{headerSize, rowSize, sliceSize, recordSize, rowBytes, symbolsIn, sliceIn}
 
 -- The length byte is 1 to N, and the bytes are those that its symbols give: what is copied is what would be written.
 pub record RowShown (n : ℕ) (row : List ℕ) : Type 0 where
@@ -21,3 +21,7 @@ pub record RecordShown (n : ℕ) (r : List ℕ) : Type 0 where
   pub few : n ≤ 8
   pub long : length r ≡ recordSize n
   pub slices : (p : ℕ) → p < n → SliceShown n (sliceIn n r p)
+
+-- Where the symbols of row k of slice p start in a record.
+abbrev pub rowPlace : ℕ → ℕ → ℕ → ℕ
+rowPlace n p k = headerSize + p * sliceSize n + (k * rowSize n + 1)

@@ -4,8 +4,8 @@ ghost use Prim.Native.Nat.{_+_, _*_, _<_, _≤_};
 ghost use lib.ListN.{length};
 ghost use Rattle.parts.specs.Handed.{Handed};
 ghost use Rattle.model.specs.Tests.{head};
-ghost use Rattle.model.specs.Bytes.{rowIn, sliceIn, recordSize, sliceSize, rowSize};
-ghost use Rattle.slice.specs.Shown.{SliceShown, RecordShown};
+ghost use Rattle.model.specs.Bytes.{rowIn, sliceIn, recordRows, recordSize, sliceSize, rowSize};
+ghost use Rattle.slice.specs.Shown.{SliceShown, RecordShown, rowPlace};
 
 // Slice p of a record, where it stands.
 pub fn slice_at(r: &[u8], n: usize, p: usize) -> &[u8]
@@ -30,4 +30,12 @@ pub fn head_in(s: &[u8], n: usize, k: usize) -> u8
     ensures { λ r. ⌜ r ≡ head (rowIn n (now (s .entry)) k) ⌝ }
 {
     row_in(s, n, k)[0]
+}
+
+// The symbols of row k of slice p of a record, where they stand.
+pub fn row_of(r: &[u8], n: usize, p: usize, k: usize) -> &[u8]
+    requires { ⌜ RecordShown n (now r) × (p < n) × (k < n) ⌝ }
+    ensures { λ x. ⌜ Handed (r .entry .ptr .0) (r .entry .ptr .1 + rowPlace n p k) (recordRows n (now (r .entry)) p k) (x .ptr) (now x) ⌝ }
+{
+    row_in(slice_at(r, n, p), n, k)
 }
