@@ -4,3 +4,5 @@ pub mod Members
 pub mod Keeping
 pub mod Turns
 pub mod Mapped
+pub mod Counting
+pub mod Joined
