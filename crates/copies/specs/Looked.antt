@@ -15,10 +15,15 @@ use Rattle.copies.specs.Copies.{apart, order, apartFrom, coveredBy, cove
 pub cover-is : (x y : Bool) {same e u v : Bool} → same ≡ e → x ≡ u → y ≡ v → coverOf (not e && u) (not e && v) ≡ coverOf (not same && x) (not same && y)
 cover-is x y p q r = rw (p, q, r)
 
--- A cover that is not Unrelated, taken apart.
-near : (u v : Bool) → (coverOf u v ≡ Unrelated → ⊥) → u ≡ false
+-- A cover that is not Unrelated, and one that is.
+pub near : (u v : Bool) → (coverOf u v ≡ Unrelated → ⊥) → u ≡ false
 near true v f = absurd (f refl)
 near false v f = refl
+
+pub far : (u v : Bool) → coverOf u v ≡ Unrelated → u ≡ true
+far true v h = refl
+far false true h = absurd (let w : _≡_ {A = ℕ} 0 1 = cc in omega arith)
+far false false h = absurd (let w : _≡_ {A = ℕ} 0 1 = cc in omega arith)
 
 found-also : (found u v : Bool) → u ≡ false → orCovered found (coverOf u v) ≡ (found || v)
 found-also true true v e = refl
@@ -62,11 +67,6 @@ module _ (n : ℕ) (t : Table) (i : ℕ) where
     looked-apart z =
         let found : (not (eqb m i) && apart n t i m) ≡ true = far (not (eqb m i) && apart n t i m) (not (eqb m i) && isCovered (order n t i m)) (sym e ∙ z) in
         rw (→any n (λ j. not (eqb j i) && apart n t i j) m less found)
-      where
-        far : (u v : Bool) → coverOf u v ≡ Unrelated → u ≡ true
-        far true v h = refl
-        far false true h = absurd (let w : _≡_ {A = ℕ} 0 1 = cc in omega arith)
-        far false false h = absurd (let w : _≡_ {A = ℕ} 0 1 = cc in omega arith)
 
   -- With every copy looked at, the answer stands in found.
   pub looked-done : {m : ℕ} {found : Bool} → Looked n t i m found → n ≤ m → {b : Bool} → found ≡ b
