@@ -6,3 +6,13 @@ pub mod RoundTrip
 pub mod Free
 pub mod UpdateKept
 pub mod MeetingKept
+pub mod Grounds
+pub mod Refusals
+pub mod Accepted
+pub mod Leaves
+pub mod InPlace
+pub mod Depends
+pub mod Given
+pub mod ReadWrite
+pub mod Mirror
+pub mod Superfluous

@@ -2,13 +2,12 @@
 -- proposition, with its number. Where each reason of a call says what its ground says, refusal k is given exactly when ground k holds
 -- and none before it does. Assumes nothing.
 use mathlib.Core.Path.{_≡_, refl, sym, ap, _∙_}
-use mathlib.Core.Logic.{_⊎_, inl, inr, ⊎-elim}
+use mathlib.Core.Logic.{_⊎_, inl, inr}
 use mathlib.Core.Bool.{Bool, true, false, not, _&&_, and-assoc}
 use mathlib.Core.List.{List, [], _∷_, _++_}
 use Prim.Native.Nat.{ℕ}
 use Rattle.model.specs.Answers.{Said, refused, done, ordered, listed, Reason, refuse, answer, accepted, leave}
 use Rattle.facts.specs.Cases.{clash, fails}
-use Rattle.facts.specs.Members.{In}
 
 -- ---- Grounds
 
@@ -31,11 +30,6 @@ SaySame [] [] = Unit {0}
 SaySame [] (g ∷ gs) = ⊥
 SaySame (r ∷ l) [] = ⊥
 SaySame (refuse b k ∷ l) (ground P m ∷ g) = (k ≡ m) × (b ≡ true → P) × (P → b ≡ true) × ((P → ⊥) → SaySame l g)
-
--- The numbers of a call's reasons, in their order.
-abbrev pub numbers : List Reason → List ℕ
-numbers [] = []
-numbers (refuse b k ∷ l) = k ∷ numbers l
 
 -- The answer is no refusal.
 abbrev pub isOwn : Said → Bool
@@ -82,12 +76,12 @@ leave-refused l old new e = rw e
 pub refused-not : (l : List Reason) (a : Said) (k : ℕ) → isOwn a ≡ true → answer l a ≡ refused k → accepted l ≡ false
 refused-not l a k o e = fails (accepted l) (λ t. own-not a k o (sym (answer-accepted l a t) ∙ e))
 
--- The answer is the call's own, or a refusal with a number of the call's list.
-pub answer-either : (l : List Reason) (a : Said) → (answer l a ≡ a) ⊎ ((k : ℕ) × In k (numbers l) × (answer l a ≡ refused k))
+-- The answer is the call's own, or a refusal.
+pub answer-either : (l : List Reason) (a : Said) → (answer l a ≡ a) ⊎ ((k : ℕ) × (answer l a ≡ refused k))
 unfolding answer
 answer-either [] a = inl refl
-answer-either (refuse true k ∷ l) a = inr (k, inl refl, refl)
-answer-either (refuse false k ∷ l) a = ⊎-elim inl (λ w. inr (w .0, inr (w .1), w .2)) (answer-either l a)
+answer-either (refuse true k ∷ l) a = inr (k, refl)
+answer-either (refuse false k ∷ l) a = answer-either l a
 
 -- ---- The first ground that holds is the answer
 
@@ -134,3 +128,7 @@ unfolding accepted
 →no-ground (x ∷ l) [] s f = absurd s
 →no-ground (refuse true j ∷ l) (ground P m ∷ g) s f = absurd (f .0 (s .1 refl))
 →no-ground (refuse false j ∷ l) (ground P m ∷ g) s f = →no-ground l g (s .3 (f .0)) (f .1)
+
+pub no-ground-append : (g g′ : List Ground) → NoGround g → NoGround g′ → NoGround (g ++ g′)
+no-ground-append [] g′ x y = y
+no-ground-append (ground P k ∷ g) g′ x y = (x .0, no-ground-append g g′ (x .1) y)

@@ -1,25 +1,23 @@
 -- Document 01's 'well formed' of bytes, as propositions with one field for each item of its sentence, each proved equivalent to the
--- model's test: a record or a table is accepted by refusals 1 to 4 exactly when it is well formed. Assumes nothing.
+-- model's test (that refusals 1 to 4 let pass exactly the well formed: Accepted). Assumes nothing.
 use mathlib.Core.Path.{_≡_, sym, _∙_}
 use mathlib.Core.Logic.{_↔_}
-use mathlib.Core.Bool.{Bool, true, not, _&&_, _||_}
+use mathlib.Core.Bool.{true, _&&_}
 use mathlib.Core.List.{List}
 use Prim.Native.Nat.{ℕ, _+_, _*_, _-_, _≤_, _<_}
 use native.Mathlib.Omega.{arith}
 use lib.ListN.{length, getD, drop, length-drop}
 use lib.Seq.{getD-drop}
 use lib.Dec.{eqb, ltb}
-use borrow.Author.Tests.{eqb-true, eq-eqb, ltb-true, ltb-false, lt-ltb, le-ltb, not-true, not-false}
-use Rattle.parts.specs.Parts.{room, part}
+use borrow.Author.Tests.{eqb-true, eq-eqb, ltb-true, lt-ltb}
+use Rattle.parts.specs.Parts.{part}
 use Rattle.model.specs.Tests.{all, every}
-use Rattle.model.specs.Answers.{accepted}
-use Rattle.model.specs.Bytes.{rowSize, sliceSize, recordSize, tableSize, unused, marked, copiesIn, ownIn, symbolsIn, rowIn, sliceIn, recordIn, inRange, lengthFormed, symbolsFormed, principalFormed, rowFormed, sliceFormed, headerFormed, recordFormed, tableFormed}
-use Rattle.model.specs.Calls.{formReasons, recordReasons, tableReasons}
-use Rattle.facts.specs.Cases.{both→, →both, neither→}
+use Rattle.model.specs.Bytes.{rowSize, sliceSize, recordSize, tableSize, unused, marked, copiesIn, ownIn, symbolsIn, rowIn, sliceIn, recordIn, lengthFormed, symbolsFormed, principalFormed, rowFormed, sliceFormed, headerFormed, recordFormed, tableFormed}
+use Rattle.facts.specs.Cases.{both→, →both}
 use Rattle.facts.specs.Numbers.{all→, →all}
 use Rattle.facts.specs.Members.{In, Different, in-at, at-in, every→, →every}
-use Rattle.laws.specs.Formed.{IsHead, inRange→, →inRange, lengthFormed→, →lengthFormed, symbolsFormed→, →symbolsFormed, principalFormed→, →principalFormed}
-use Rattle.laws.specs.Layout.{length-recordIn, length-sliceIn, length-rowIn, copiesIn-first, marked-first}
+use Rattle.laws.specs.Formed.{IsHead, lengthFormed→, →lengthFormed, symbolsFormed→, →symbolsFormed, principalFormed→, →principalFormed}
+use Rattle.laws.specs.Layout.{length-recordIn, length-sliceIn, length-rowIn, copiesIn-first}
 
 -- The first two bytes are B5 0A.
 abbrev pub Marked : List ℕ → Type 0
@@ -171,67 +169,3 @@ module _ (n : ℕ) (t : List ℕ) where
   →tableFormed w =
       →all n (λ c. eqb (ownIn (recordIn n t c)) c && recordFormed n (recordIn n t c))
       (λ c h. →both (eq-eqb (ownIn (recordIn n t c)) c (w .own c h)) (→recordFormed n (recordIn n t c) (w .copy c h)))
-
--- ---- Refusals 1 to 4 accept exactly the well formed
-
--- What the four tests say together.
-module _ (b : List ℕ) (size : ℕ) (formed : Bool) where
-  pub form→ : accepted (formReasons b size formed) ≡ true
-      → (4 ≤ length b) × (marked b ≡ true) × (inRange (copiesIn b) ≡ true) × (length b ≡ size) × (formed ≡ true)
-  unfolding accepted formReasons
-  form→ e =
-      let u = both→ (not (ltb (length b) 4 || not (marked b))) (not (not (inRange (copiesIn b))) && (not (not (eqb (length b) size)) && (not (not formed) && true))) e in
-      let v = both→ (not (not (inRange (copiesIn b)))) (not (not (eqb (length b) size)) && (not (not formed) && true)) (u .1) in
-      let w = both→ (not (not (eqb (length b) size))) (not (not formed) && true) (v .1) in
-      let x = both→ (not (not formed)) true (w .1) in
-      let m = neither→ (ltb (length b) 4) (not (marked b)) (not-true (ltb (length b) 4 || not (marked b)) (u .0)) in (
-        ltb-false (length b) 4 (m .0),
-        not-false (marked b) (m .1),
-        not-false (inRange (copiesIn b)) (not-true (not (inRange (copiesIn b))) (v .0)),
-        eqb-true (length b) size (not-false (eqb (length b) size) (not-true (not (eqb (length b) size)) (w .0))),
-        not-false formed (not-true (not formed) (x .0)),
-      )
-
-  pub →form : 4 ≤ length b → marked b ≡ true → inRange (copiesIn b) ≡ true → length b ≡ size → formed ≡ true → accepted (formReasons b size formed) ≡ true
-  unfolding accepted formReasons
-  →form four m r e f = rw (le-ltb (length b) 4 four, m, r, eq-eqb (length b) size e, f)
-
-pub record-accepted→ : (r : List ℕ) → accepted (recordReasons r) ≡ true → WellRecord (copiesIn r) r
-unfolding recordReasons
-record-accepted→ r e =
-    let f = form→ r (recordSize (copiesIn r)) (recordFormed (copiesIn r) r) e in
-    let i = inRange→ (copiesIn r) (f .2) in
-    recordFormed→ (copiesIn r) r (i .0) (i .1) (f .3) (f .4)
-
-pub →record-accepted : (n : ℕ) (r : List ℕ) → WellRecord n r → accepted (recordReasons r) ≡ true
-unfolding recordReasons
-→record-accepted n r w =
-    rw (w .copies)
-    (→form r (recordSize n) (recordFormed n r)
-    (omega (arith, w .size)) (→marked r (w .mark)) (rw (w .copies) (→inRange n (w .least) (w .most))) (w .size) (→recordFormed n r w))
-
-pub table-accepted→ : (t : List ℕ) → accepted (tableReasons t) ≡ true → WellTable (copiesIn t) t
-unfolding tableReasons
-table-accepted→ t e =
-    let f = form→ t (tableSize (copiesIn t)) (tableFormed (copiesIn t) t) e in
-    let i = inRange→ (copiesIn t) (f .2) in
-    tableFormed→ (copiesIn t) t (i .0) (i .1) (f .3) (f .4)
-
-pub →table-accepted : (n : ℕ) (t : List ℕ) → WellTable n t → accepted (tableReasons t) ≡ true
-unfolding tableReasons
-→table-accepted n t w = rw (table-copies w) (→form t (tableSize n) (tableFormed n t) four mark range (w .size) (→tableFormed n t w))
-  where
-    some : 0 < n
-    some = omega (arith, w .least)
-
-    four : 4 ≤ length t
-    four = omega (arith, length-first, w .size)
-      where
-        length-first : recordSize n ≤ tableSize n
-        length-first = omega (arith, room (recordSize n) some)
-
-    mark : marked t ≡ true
-    mark = sym (marked-first n t) ∙ →marked (recordIn n t 0) (w .copy 0 some .mark)
-
-    range : inRange (copiesIn t) ≡ true
-    range = rw (table-copies w) (→inRange n (w .least) (w .most))
