@@ -1,0 +1,12 @@
+pub mod Hist
+pub mod Listed
+pub mod Next
+pub mod Inv
+pub mod Step
+pub mod Meet
+pub mod Upd
+pub mod Answer
+pub mod Slice
+pub mod Table
+pub mod View
+pub mod Demand
