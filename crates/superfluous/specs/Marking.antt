@@ -2,52 +2,30 @@
 use mathlib.Core.Path.{_≡_, refl, sym, ap, ap₂, _∙_}
 use mathlib.Core.Logic.{_⊎_, inl, inr}
 use mathlib.Core.Bool.{Bool, true, false, cond, not, _&&_}
-use mathlib.Core.List.{List}
 use Prim.Native.Nat.{ℕ, _+_, _^_, _≤_, _<_}
 use native.Mathlib.Omega.{arith}
-use borrow.Author.Tests.{eq-eqb, eqb-true, eqb-false, not-true, not-false}
+use borrow.Author.Tests.{eqb-true, eqb-false, not-true, not-false}
 use native.Mathlib.Numerals.{add-one}
 use lib.Dec.{eqb}
 use lib.Pow.{pow-mono}
-use Rattle.model.specs.Tests.{anyPair, isIn, head}
-use Rattle.model.specs.Steps.{Table, sliceAnswer, answerOf, answerAt, isUnrelated, unrelated, maskOf, isSuperfluous, isCovered}
-use Rattle.facts.specs.Cases.{by-lt, both→, unless→, cond-true, cond-false, agree}
-use Rattle.facts.specs.Numbers.{any→, none→, any-same, →pair, →no-pair, below-next}
+use Rattle.model.specs.Tests.{anyPair}
+use Rattle.model.specs.Steps.{Table, maskOf, isSuperfluous}
+use Rattle.facts.specs.Cases.{by-lt, both→, unless→, cond-true, cond-false}
+use Rattle.facts.specs.Numbers.{any→, none→, →pair, →no-pair, below-next}
 use Rattle.copies.specs.declared.Cover.{Cover}
 use Rattle.copies.specs.Copies.{apart, order, apartFrom, coveredBy, coverOf}
 use Rattle.copies.specs.Looked.{near, far}
 use Rattle.superfluous.specs.declared.Masked.{Masked}
 use Rattle.superfluous.specs.declared.Masked.the-variants.{Unrelated, Mask}
-use Rattle.superfluous.specs.Mask.{masked, bitOf, mask-below}
-
--- ---- Unrelated goes both ways
-
-eqb-swap : (x y : ℕ) → eqb x y ≡ eqb y x
-eqb-swap x y = agree (eqb x y) (eqb y x) (λ e. swap x y e) (λ e. swap y x e)
-  where
-    swap : (u v : ℕ) → eqb u v ≡ true → eqb v u ≡ true
-    swap u v e = eq-eqb v u (sym (eqb-true u v e))
-
-answer-swap : (same found foundOther : Bool) → isUnrelated (answerOf same found foundOther) ≡ isUnrelated (answerOf same foundOther found)
-answer-swap true found foundOther = refl
-answer-swap false true true = refl
-answer-swap false true false = refl
-answer-swap false false true = refl
-answer-swap false false false = refl
-
-slice-swap : (x y : List ℕ) → isUnrelated (sliceAnswer x y) ≡ isUnrelated (sliceAnswer y x)
-unfolding sliceAnswer
-slice-swap x y =
-    answer-swap (eqb (head x) (head y)) (isIn (head x) y) (isIn (head y) x)
-    ∙ ap (λ (b : Bool). isUnrelated (answerOf b (isIn (head y) x) (isIn (head x) y))) (eqb-swap (head x) (head y))
-
-pub apart-swap : (n : ℕ) (t : Table) (a b : ℕ) → apart n t a b ≡ apart n t b a
-unfolding apart unrelated answerAt
-apart-swap n t a b =
-    any-same n (λ p. isUnrelated (sliceAnswer (t a p a) (t b p b))) (λ p. isUnrelated (sliceAnswer (t b p b) (t a p a)))
-    (λ p h. slice-swap (t a p a) (t b p b))
+use Rattle.superfluous.specs.Mask.{masked, bitOf}
+use Rattle.laws.specs.Superfluous.{mask-below}
+use Rattle.laws.specs.Mirror.{unrelated-mirrored}
 
 -- ---- One copy and all others
+
+apart-swap : (n : ℕ) (t : Table) (a b : ℕ) → apart n t a b ≡ apart n t b a
+unfolding apart
+apart-swap n t a b = unrelated-mirrored n b a (t b) (t a)
 
 -- A copy that is apart from some other copy makes a pair.
 pub apart-pair : (n : ℕ) (t : Table) (i : ℕ) → i < n → apartFrom n t i n ≡ true → anyPair n (apart n t) ≡ true
