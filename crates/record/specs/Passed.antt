@@ -15,7 +15,8 @@ use Rattle.facts.specs.Numbers.{all→}
 use Rattle.facts.specs.Members.{In, head-in}
 use Rattle.laws.specs.Reasons.{accepted-answer}
 use Rattle.laws.specs.Layout.{length-sliceIn, length-rowIn}
-use Rattle.laws.specs.WellFormed.{WellRow, WellSlice, WellRecord, rowFormed→, record-accepted→}
+use Rattle.laws.specs.WellFormed.{WellRow, WellSlice, WellRecord, rowFormed→}
+use Rattle.laws.specs.Accepted.{record-accepted→}
 use Rattle.laws.specs.RoundTrip.{row-form, row-formed}
 use Rattle.slice.specs.Shown.{RowShown, SliceShown, RecordShown}
 use Rattle.slice.specs.Places.{sizes}
