@@ -3,8 +3,8 @@
 use mathlib.Core.Path.{_≡_, refl, _∙_}
 use mathlib.Core.Bool.{Bool, true, false, cond, _||_}
 use mathlib.Core.List.{List, [], _∷_, _++_}
-use Prim.Native.Nat.{ℕ, zero, suc, _*_, _/_, _%_, _^_, _<_, max}
-use native.Mathlib.Nat.{pow-suc, mul-div-mul-right, div-eq-of-lt, one-mul}
+use Prim.Native.Nat.{ℕ, zero, suc, _*_, _/_, _%_, _^_, _≤_, _<_, max}
+use native.Mathlib.Nat.{pow-suc, mul-le-mul, mul-div-mul-right, div-eq-of-lt, one-mul}
 use native.Mathlib.Omega.{arith}
 use lib.Dec.{lit<, eqb, eqb·zero-suc, eqb·suc-zero, eqb·suc-suc}
 use lib.Bits.{bitAnd, bitOr, or-shr, or-step, or-lt, and-mask}
@@ -13,6 +13,10 @@ use Rattle.model.specs.Tests.{isIn}
 use Rattle.symbols.specs.Marks.{digit, marks}
 
 -- ---- Code
+
+-- There are at most 64 symbols, one for each bit.
+pub symbols-most : {n : ℕ} → n ≤ 8 → n * n ≤ 64
+symbols-most h = mul-le-mul h h
 
 -- `(w >> x) & 1` is the digit.
 pub read-digit : (w x : ℕ) → bitAnd (w / 2 ^ x) 1 ≡ digit w x
@@ -27,13 +31,13 @@ mark-fits w x h l = or-lt 64 w (2 ^ x) h (pow-lt l)
 
 -- ---- Digits
 
-pub digit-or : (a b x : ℕ) → digit (bitOr a b) x ≡ max (digit a x) (digit b x)
+digit-or : (a b x : ℕ) → digit (bitOr a b) x ≡ max (digit a x) (digit b x)
 digit-or a b x =
     let p = a / 2 ^ x in
     let q = b / 2 ^ x in
     rw (or-shr a b x, or-step p q) (omega arith)
 
-pub digit-pow : (s x : ℕ) → digit (2 ^ s) x ≡ cond (eqb s x) 1 0
+digit-pow : (s x : ℕ) → digit (2 ^ s) x ≡ cond (eqb s x) 1 0
 digit-pow zero zero = refl
 digit-pow zero (suc x) =
     let low : 1 < 2 ^ suc x = pow-lt {i = 0} (omega arith) in

@@ -15,7 +15,6 @@ use Rattle.model.specs.Tests.{isIn, every, different}
 use Rattle.model.specs.Bytes.{symbolsFormed}
 use Rattle.facts.specs.Cases.{by-eq}
 use Rattle.facts.specs.Members.{→every}
-use Rattle.facts.specs.Turns.{every-rest}
 use Rattle.symbols.specs.Marks.{digit}
 use Rattle.symbols.proofs.Digits.{digit-mark}
 
@@ -50,7 +49,7 @@ unmarked-all w x (y ∷ l) = rw (unmarked-next w x y, eqb-sym x y, unmarked-all 
     go false false true r = refl
     go false false false r = refl
 
-pub unseen-is : (w : ℕ) (l : List ℕ) → unseen w l ≡ (every (unmarked w) l && different l)
+unseen-is : (w : ℕ) (l : List ℕ) → unseen w l ≡ (every (unmarked w) l && different l)
 unfolding unseen every different
 unseen-is w [] = refl
 unseen-is w (x ∷ l) = rw (unseen-is (bitOr w (2 ^ x)) l, unmarked-all w x l) (go (unmarked w x) (not (isIn x l)) (every (unmarked w) l) (different l))
@@ -95,16 +94,3 @@ module _ (n w : ℕ) (l : List ℕ) (i : ℕ) where
     formed-next g ne =
         let zero-digit : digit w (getD l i 0) ≡ 0 = omega arith in
         rw (here, lt-ltb (getD l i 0) (n * n) g, zero-digit)
-
--- ---- Every symbol passes, from the front
-
-module _ (f : ℕ → Bool) (l : List ℕ) (i : ℕ) where
-  pub every-pass : i < length l → f (getD l i 0) ≡ true → every f (drop i l) ≡ every f (drop (i + 1) l)
-  every-pass h e = rw (every-rest l i h f, e)
-
-  pub every-fail : i < length l → f (getD l i 0) ≡ false → every f (drop i l) ≡ false
-  every-fail h e = rw (every-rest l i h f, e)
-
-  pub every-end : length l ≤ i → every f (drop i l) ≡ true
-  unfolding every
-  every-end h = rw (drop-of-length-le l h)

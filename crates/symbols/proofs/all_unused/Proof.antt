@@ -7,7 +7,7 @@ use borrow.Author.Tests.{eq-eqb, ne-eqb}
 use borrow.Author.Needs.{needs}
 use Rattle.model.specs.Tests.{every}
 use Rattle.model.specs.Bytes.{unused}
-use Rattle.symbols.proofs.Seen.{every-fail, every-pass, every-end}
+use Rattle.symbols.proofs.Formed.{every-fail, every-pass, every-end}
 use Rattle.symbols.proofs.all_unused.Statement.{statement}
 use Rattle.symbols.proofs.all_unused.Tie as tie
 

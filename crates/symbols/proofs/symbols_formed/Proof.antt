@@ -2,14 +2,13 @@
 -- those passed. Assumes nothing.
 use mathlib.Core.Path.{_≡_, sym, _∙_}
 use Prim.Native.Nat.{_≤_, _<_, _*_, _-_, _^_}
-use native.Mathlib.Nat.{mul-le-mul}
 use native.Mathlib.Omega.{arith}
 use lib.ListN.{getD, length, drop}
 use denote.Ref.{now}
 use borrow.Author.Needs.{needs}
 use Rattle.model.specs.Bytes.{symbolsFormed}
 use Rattle.symbols.proofs.Seen.{formedFrom, formed-start, formed-great, formed-twice, formed-next, formed-end}
-use Rattle.symbols.proofs.Digits.{read-digit, make-bit, mark-fits}
+use Rattle.symbols.proofs.Digits.{symbols-most, read-digit, make-bit, mark-fits}
 use Rattle.symbols.proofs.symbols_formed.Statement.{statement}
 use Rattle.symbols.proofs.symbols_formed.Tie as tie
 
@@ -20,13 +19,13 @@ abbrev μ-loop : tie.MeasureT-loop
 μ-loop l n limit seen₀ i₀ seen i = length l - i
 
 mul-limit : tie.Need-mul-limit Inv-loop μ-loop
-mul-limit c = let most : c .args .n * c .args .n ≤ 8 * 8 = mul-le-mul (c .pre) (c .pre) in omega arith
+mul-limit c = let most = symbols-most (c .pre) in omega arith
 
 cast-limit : tie.Need-cast-limit Inv-loop μ-loop
-cast-limit c = let most : c .args .n * c .args .n ≤ 8 * 8 = mul-le-mul (c .pre) (c .pre) in omega arith
+cast-limit c = let most = symbols-most (c .pre) in omega arith
 
 loop-holds : tie.Need-loop-holds Inv-loop μ-loop
-loop-holds c = let most : c .args .n * c .args .n ≤ 8 * 8 = mul-le-mul (c .pre) (c .pre) in (omega arith, omega arith, omega arith, formed-start _ _)
+loop-holds c = let most = symbols-most (c .pre) in (omega arith, omega arith, omega arith, formed-start _ _)
 
 shared-slice-read-x : tie.Need-shared-slice-read-x Inv-loop μ-loop
 shared-slice-read-x c = search needs
