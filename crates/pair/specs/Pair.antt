@@ -1,10 +1,11 @@
 -- Two records side by side: what the checks have shown of both, and what their comparison gives. Assumes nothing.
 use mathlib.Core.Path.{_≡_, refl, _∙_}
 use mathlib.Core.Bool.{Bool, true, false, cond}
-use mathlib.Core.List.{List}
+use mathlib.Core.List.{List, [], _∷_}
 use Prim.Native.Nat.{ℕ, _<_}
 use native.Mathlib.Omega.{arith}
 use Rattle.model.specs.Steps.{Record, unrelated, comparison, bWins}
+use Rattle.model.specs.Answers.{saidCompared, ordered, refuse, answer, orderNumber}
 use Rattle.model.specs.declared.Compared.{Compared}
 use Rattle.model.specs.declared.Order.{Order}
 use Rattle.model.specs.declared.Refusal.{Refusal}
@@ -44,3 +45,14 @@ module _ (n a b : ℕ) (x y : Record) where
       go : (u : Bool) → unrelated n a b x y ≡ u → (unrelated n a b x y ≡ true) × (q ≡ UnrelatedSlice)
       go true h = (h, (cc (e ∙ cond-true (Compared.Refused UnrelatedSlice) (Compared.As (comparison n a b x y)) h)))
       go false h = absurd (let z : _≡_ {A = ℕ} 0 1 = cc (e ∙ cond-false (Compared.Refused UnrelatedSlice) (Compared.As (comparison n a b x y)) h) in omega arith)
+
+  -- What the comparison says, as a call's last reason and its answer.
+  pub compared-said : saidCompared (pairCompared n a b x y) ≡ answer (refuse (unrelated n a b x y) 7 ∷ []) (ordered (orderNumber (comparison n a b x y)))
+  unfolding pairCompared answer
+  compared-said = go (unrelated n a b x y)
+    where
+      go : (u : Bool)
+          → saidCompared (cond u (Compared.Refused UnrelatedSlice) (Compared.As (comparison n a b x y)))
+          ≡ answer (refuse u 7 ∷ []) (ordered (orderNumber (comparison n a b x y)))
+      go true = refl
+      go false = refl

@@ -16,13 +16,16 @@ use Rattle.slice.specs.Shown.{RowShown, SliceShown, RecordShown}
 pub record Sizes (n : ℕ) : Type 0 where
   pub slice : n * (n + 1) ≤ 72
   pub record-body : n * (n * (n + 1)) ≤ 576
+  pub table : n * (4 + n * (n * (n + 1))) ≤ 4640
   pub symbols : n * n ≤ 64
 
 pub sizes : (n : ℕ) → n ≤ 8 → Sizes n
 sizes n few =
     let row : n + 1 ≤ 9 = omega arith in
     let slice : n * (n + 1) ≤ 8 * 9 = mul-le-mul few row in
-    record { slice = slice; record-body = mul-le-mul few slice; symbols = mul-le-mul few few }
+    let body : n * (n * (n + 1)) ≤ 8 * 72 = mul-le-mul few slice in
+    let whole : 4 + n * (n * (n + 1)) ≤ 580 = omega arith in
+    record { slice = slice; record-body = body; table = mul-le-mul few whole; symbols = mul-le-mul few few }
 
 -- What stands behind the header of a record.
 pub body : (n : ℕ) (r : List ℕ) → length r ≡ recordSize n → length (drop 4 r) ≡ n * sliceSize n

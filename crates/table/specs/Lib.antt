@@ -1,0 +1,4 @@
+pub mod Checked
+pub mod Chain
+pub mod Listing
+pub mod Lending
