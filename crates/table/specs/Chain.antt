@@ -4,7 +4,7 @@ use mathlib.Core.Bool.{Bool, true, false, _||_}
 use mathlib.Core.List.{List, [], _∷_, _++_}
 use Prim.Native.Nat.{ℕ}
 use native.Mathlib.Omega.{arith}
-use Rattle.model.specs.Answers.{Said, refused, done, Reason, refuse, answer}
+use Rattle.model.specs.Answers.{Said, refused, done, ordered, Reason, refuse, answer}
 
 -- A refusal of the check is the call's.
 pub answer-front : (l m : List Reason) (a : Said) (k : ℕ) → answer l done ≡ refused k → answer (l ++ m) a ≡ refused k
@@ -46,3 +46,16 @@ module _ {b : Bool} (k : ℕ) (l : List Reason) (a : Said) where
 pub answer-own : (a : Said) → answer [] a ≡ a
 unfolding answer
 answer-own a = refl
+
+-- The same reasons before another answer: a comparison's refusal is a meeting's, and where it answers, so does the meeting.
+pub refused-same : (l : List Reason) (m k : ℕ) → answer l (ordered m) ≡ refused k → answer l done ≡ refused k
+unfolding answer
+refused-same [] m k e = absurd (let z : _≡_ {A = ℕ} 0 1 = cc in omega arith)
+refused-same (refuse true j ∷ l) m k e = e
+refused-same (refuse false j ∷ l) m k e = refused-same l m k e
+
+pub ordered-done : (l : List Reason) (m k : ℕ) → answer l (ordered m) ≡ ordered k → answer l done ≡ done
+unfolding answer
+ordered-done [] m k e = refl
+ordered-done (refuse true j ∷ l) m k e = absurd (let z : _≡_ {A = ℕ} 0 1 = cc in omega arith)
+ordered-done (refuse false j ∷ l) m k e = ordered-done l m k e
