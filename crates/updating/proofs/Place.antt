@@ -1,0 +1,117 @@
+-- What is written into a part of a part is written into the whole; and so the updated table is the old one with one row written into
+-- the record where it stands. Assumes nothing.
+use mathlib.Core.Path.{_≡_, sym, ap, ap₂, _∙_}
+use mathlib.Core.List.{List, _++_, append-assoc}
+use Prim.Native.Nat.{ℕ, _+_, _*_, _≤_, _<_}
+use native.Mathlib.Omega.{arith}
+use lib.ListN.{length, take, drop, length-drop, take-append-drop}
+use lib.Seq.{take-add, take-append-le, drop-append-le, drop-drop, length-take-le}
+use Rattle.parts.specs.Parts.{room, part, put}
+use Rattle.parts.specs.Written.{written, length-written, written-put}
+use Rattle.model.specs.Steps.{updatedRow, updatedSlice, updatedRecord, updatedTable}
+use Rattle.model.specs.Bytes.{headerSize, rowSize, sliceSize, recordSize, tableSize, rowBytes, sliceBytes, recordBytes, tableBytes, ownIn, rowIn, sliceIn, recordRows, recordIn, tableRows}
+use Rattle.row.proofs.Rows.{row-take}
+use Rattle.laws.specs.Layout.{length-row, length-sliceIn, length-recordIn}
+use Rattle.laws.specs.WellFormed.{WellRecord, WellTable}
+use Rattle.laws.specs.RoundTrip.{slice-formed}
+use Rattle.laws.specs.UpdateKept.{updated-row}
+use Rattle.laws.specs.Leaves.{update-leaves}
+use Rattle.laws.specs.InPlace.{update-put, update-record-put, update-slice-put}
+use Rattle.updating.specs.Asked.{own-slice, own-fits}
+
+-- ---- Places within places
+
+-- Behind the first h.
+written-behind : (h at : ℕ) (v l : List ℕ) → written (h + at) v l ≡ take h l ++ written at v (drop h l)
+unfolding written
+written-behind h at v l =
+    let place : h + at + length v ≡ h + (at + length v) = omega arith in
+    rw (take-add h at l, place, ← drop-drop (at + length v) h l)
+    (append-assoc (take h l) (take at (drop h l)) (v ++ drop (at + length v) (drop h l)))
+
+-- In the front of a list.
+written-front : (at : ℕ) (v x y : List ℕ) → at + length v ≤ length x → written at v (x ++ y) ≡ written at v x ++ y
+unfolding written
+written-front at v x y fits =
+    let starts : at ≤ length x = omega arith in
+    rw (take-append-le at x y starts, drop-append-le (at + length v) x y fits)
+    (sym (append-assoc (take at x) (v ++ drop (at + length v) x) y ∙ ap (λ (q : List ℕ). take at x ++ q) (append-assoc v (drop (at + length v) x) y)))
+
+-- In part k, at the place of part j of it.
+module _ (w k u j : ℕ) (v l : List ℕ) (fits : k * w + w ≤ length l) (within : j * u + u ≤ w) (wide : length v ≡ u) where
+  pub written-within : written (k * w + j * u) v l ≡ put w k (put u j v (part w k l)) l
+  unfolding part put
+  written-within =
+      let d : List ℕ = drop (k * w) l in
+      let whole : length (take w d) ≡ w = length-take-le w d (rw length-drop (omega arith)) in
+      let room : j * u + length v ≤ length (take w d) = omega arith in
+      let inner : written (j * u) v (take w d) ≡ put u j v (take w d) = written-put u j v (take w d) wide in
+      written-behind (k * w) (j * u) v l
+      ∙ ap (λ (q : List ℕ). take (k * w) l ++ q)
+      (ap (written (j * u) v) (sym (take-append-drop w d))
+      ∙ written-front (j * u) v (take w d) (drop w d) room
+      ∙ ap₂ _++_ inner (drop-drop w (k * w) l))
+
+-- ---- One row of one record
+
+module _ (n : ℕ) (r : List ℕ) (w : WellRecord n r) where
+  abbrev own : ℕ
+  own = ownIn r
+
+  written-own : recordBytes n own (updatedRecord n own (recordRows n r))
+      ≡ written (headerSize + own * sliceSize n + own * rowSize n) (rowBytes n (updatedRow n own (recordRows n r own))) r
+  unfolding recordRows sliceIn
+  written-own =
+      let s : List ℕ = sliceIn n r own in
+      let v : List ℕ = rowBytes n (updatedRow n own (rowIn n s)) in
+      let size : length s ≡ sliceSize n = length-sliceIn n r own (w .size) (w .own) in
+      let well = w .slice own (w .own) in
+      let short = updated-row n own (rowIn n s) (w .least) (w .own) (slice-formed n own s size well) .fits in
+      let wide : length v ≡ rowSize n = length-row n (updatedRow n own (rowIn n s)) short in
+      let place : headerSize + own * sliceSize n + own * rowSize n ≡ headerSize + (own * sliceSize n + own * rowSize n) = omega arith in
+      let fits : own * sliceSize n + sliceSize n ≤ length (drop headerSize r) = rw length-drop (omega (arith, w .size, room (sliceSize n) (w .own))) in
+      update-record-put n r w
+      ∙ ap (λ (q : List ℕ). take headerSize r ++ put (sliceSize n) own q (drop headerSize r)) (update-slice-put n own s (w .least) (w .own) size well)
+      ∙ ap (λ (q : List ℕ). take headerSize r ++ q)
+      (sym (written-within (sliceSize n) own (rowSize n) own v (drop headerSize r) fits (room (rowSize n) (w .own)) wide))
+      ∙ sym (written-behind headerSize (own * sliceSize n + own * rowSize n) v r)
+      ∙ sym (ap (λ (m : ℕ). written m v r) place)
+
+-- ---- The table
+
+-- Where row p of slice p starts in a record.
+abbrev pub place : ℕ → ℕ → ℕ
+place n p = headerSize + p * sliceSize n + p * rowSize n
+
+module _ {n : ℕ} {t : List ℕ} (w : WellTable n t) {p : ℕ} (h : p < n) where
+  updated-written : put (recordSize n) p (written (place n p) (rowBytes n (updatedRow n p (tableRows n t p p))) (recordIn n t p)) t
+      ≡ tableBytes n (updatedTable n p (tableRows n t))
+  unfolding tableRows
+  updated-written =
+      let one = rw (w .own p h) at (written-own n (recordIn n t p) (w .copy p h)) in
+      sym (ap (λ (q : List ℕ). put (recordSize n) p q t) one)
+      ∙ sym (update-put n t p w h)
+      ∙ update-leaves n t p w h
+
+  short : length (updatedRow n p (tableRows n t p p)) ≤ n
+  unfolding tableRows recordRows
+  short = own-fits (own-slice w p h)
+
+  -- Record p, lent and come back with the new row of 8 cells written as far as it goes.
+  module _ (row after : List ℕ) (new : row ≡ rowBytes 8 (updatedRow n p (tableRows n t p p)))
+      (e : after ≡ written (place n p) (take (rowSize n) row) (recordIn n t p)) where
+    same : after ≡ written (place n p) (rowBytes n (updatedRow n p (tableRows n t p p))) (recordIn n t p)
+    same =
+        e ∙ ap (λ (v : List ℕ). written (place n p) v (recordIn n t p)) (ap (take (rowSize n)) new ∙ row-take n _ short (w .most))
+
+    pub after-long : length after ≡ recordSize n
+    after-long =
+        let size : length (recordIn n t p) ≡ recordSize n = length-recordIn n t p (w .size) h in
+        let wide = length-row n (updatedRow n p (tableRows n t p p)) short in
+        ap length same
+        ∙ length-written (place n p) (rowBytes n (updatedRow n p (tableRows n t p p))) (recordIn n t p)
+        (omega (arith, size, wide, room (sliceSize n) h, room (rowSize n) h))
+        ∙ size
+
+    pub after-updated : put (recordSize n) p after t ≡ tableBytes n (updatedTable n p (tableRows n t))
+    after-updated = ap (λ (q : List ℕ). put (recordSize n) p q t) same ∙ updated-written
