@@ -6,9 +6,10 @@ ghost use mathlib.Core.List.{[]};
 ghost use Prim.Native.Nat.{_<_, _≤_};
 ghost use lib.ListN.{length};
 ghost use Rattle.parts.specs.Parts.{part};
+ghost use Rattle.parts.specs.Written.{written};
 ghost use Rattle.model.specs.Tests.{all};
 ghost use Rattle.model.specs.Answers.{saidDone};
-ghost use Rattle.model.specs.Bytes.{rowSize, sliceSize, recordSize, rowIn, sliceIn, marked, inRange, rowFormed, sliceFormed, recordFormed};
+ghost use Rattle.model.specs.Bytes.{rowSize, sliceSize, recordSize, headerBytes, rowIn, sliceIn, marked, inRange, rowFormed, sliceFormed, recordFormed};
 ghost use Rattle.model.specs.Calls.{checkRecordSays};
 ghost use Rattle.model.specs.Promises.{Owed};
 ghost use Rattle.symbols.specs.Marks.{marks};
@@ -93,6 +94,15 @@ pub fn has_mark(b: &[u8]) -> bool
         return false;
     }
     b[1] == 0x0A
+}
+
+// The header into the first four bytes: the mark, N, the own number.
+pub fn put_header(r: &mut [u8], n: usize, own: usize)
+    requires { ⌜ (4 ≤ length (now r)) × (n ≤ 8) × (own < n) ⌝ }
+    ensures { λ x. ⌜ now (r .exit) ≡ written 0 (headerBytes n own (λ p k. [])) (now (r .entry)) ⌝ }
+{
+    let header: [u8; 4] = [0xB5, 0x0A, n as u8, own as u8];
+    parts::copy(r, 0, &header);
 }
 
 // N is 2 to 8.
