@@ -17,14 +17,15 @@ unfoldable pub stay : ℕ → ℕ → List ℕ → List ℕ
 stay n p s = keep (headOfOther n p (rowIn n s)) (rowIn n s p)
 
 -- They are what is cut out with the heads that stand in an array.
-pub stay-cut : (n p : ℕ) (s heads old kept : List ℕ) → p < n → take (n - 1) heads ≡ tab (n - 1) (otherHead p (rowIn n s)) → old ≡ rowIn n s p
+pub stay-cut : {n p : ℕ} {s old kept : List ℕ} → OwnSlice n p s → (heads : List ℕ)
+    → take (n - 1) heads ≡ tab (n - 1) (otherHead p (rowIn n s)) → old ≡ rowIn n s p
     → kept ≡ rowBytes 8 (keep (λ x. isIn x (take (n - 1) heads)) old) → kept ≡ rowBytes 8 (stay n p s)
 unfolding stay
-stay-cut n p s heads old kept h eh eo e =
+stay-cut {n} {p} {s} own heads eh eo e =
     e
     ∙ ap (rowBytes 8)
     (ap₂ (λ (hs l : List ℕ). keep (λ x. isIn x hs) l) eh eo
-    ∙ kept-others n p (rowIn n s) h (rowIn n s p))
+    ∙ kept-others n p (rowIn n s) (own .copy) (rowIn n s p))
 
 module _ {n p : ℕ} {s kept : List ℕ} (own : OwnSlice n p s) (e : kept ≡ rowBytes 8 (stay n p s)) where
   symbols : symbolsIn kept ≡ stay n p s

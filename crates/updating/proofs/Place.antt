@@ -8,8 +8,8 @@ use lib.ListN.{length, take, drop, length-drop, take-append-drop}
 use lib.Seq.{take-add, take-append-le, drop-append-le, drop-drop, length-take-le}
 use Rattle.parts.specs.Parts.{room, part, put}
 use Rattle.parts.specs.Written.{written, length-written, written-put}
-use Rattle.model.specs.Steps.{updatedRow, updatedSlice, updatedRecord, updatedTable}
-use Rattle.model.specs.Bytes.{headerSize, rowSize, sliceSize, recordSize, tableSize, rowBytes, sliceBytes, recordBytes, tableBytes, ownIn, rowIn, sliceIn, recordRows, recordIn, tableRows}
+use Rattle.model.specs.Steps.{updatedRow, updatedRecord, updatedTable}
+use Rattle.model.specs.Bytes.{headerSize, rowSize, sliceSize, recordSize, rowBytes, recordBytes, tableBytes, ownIn, rowIn, sliceIn, recordRows, recordIn, tableRows}
 use Rattle.row.proofs.Rows.{row-take}
 use Rattle.laws.specs.Layout.{length-row, length-sliceIn, length-recordIn}
 use Rattle.laws.specs.WellFormed.{WellRecord, WellTable}
@@ -17,7 +17,7 @@ use Rattle.laws.specs.RoundTrip.{slice-formed}
 use Rattle.laws.specs.UpdateKept.{updated-row}
 use Rattle.laws.specs.Leaves.{update-leaves}
 use Rattle.laws.specs.InPlace.{update-put, update-record-put, update-slice-put}
-use Rattle.updating.specs.Asked.{own-slice, own-fits}
+use Rattle.updating.specs.Asked.{ownPlace, own-slice, own-fits}
 
 -- ---- Places within places
 
@@ -39,7 +39,7 @@ written-front at v x y fits =
 
 -- In part k, at the place of part j of it.
 module _ (w k u j : ℕ) (v l : List ℕ) (fits : k * w + w ≤ length l) (within : j * u + u ≤ w) (wide : length v ≡ u) where
-  pub written-within : written (k * w + j * u) v l ≡ put w k (put u j v (part w k l)) l
+  written-within : written (k * w + j * u) v l ≡ put w k (put u j v (part w k l)) l
   unfolding part put
   written-within =
       let d : List ℕ = drop (k * w) l in
@@ -59,7 +59,7 @@ module _ (n : ℕ) (r : List ℕ) (w : WellRecord n r) where
   own = ownIn r
 
   written-own : recordBytes n own (updatedRecord n own (recordRows n r))
-      ≡ written (headerSize + own * sliceSize n + own * rowSize n) (rowBytes n (updatedRow n own (recordRows n r own))) r
+      ≡ written (ownPlace n own) (rowBytes n (updatedRow n own (recordRows n r own))) r
   unfolding recordRows sliceIn
   written-own =
       let s : List ℕ = sliceIn n r own in
@@ -68,7 +68,7 @@ module _ (n : ℕ) (r : List ℕ) (w : WellRecord n r) where
       let well = w .slice own (w .own) in
       let short = updated-row n own (rowIn n s) (w .least) (w .own) (slice-formed n own s size well) .fits in
       let wide : length v ≡ rowSize n = length-row n (updatedRow n own (rowIn n s)) short in
-      let place : headerSize + own * sliceSize n + own * rowSize n ≡ headerSize + (own * sliceSize n + own * rowSize n) = omega arith in
+      let place : ownPlace n own ≡ headerSize + (own * sliceSize n + own * rowSize n) = omega arith in
       let fits : own * sliceSize n + sliceSize n ≤ length (drop headerSize r) = rw length-drop (omega (arith, w .size, room (sliceSize n) (w .own))) in
       update-record-put n r w
       ∙ ap (λ (q : List ℕ). take headerSize r ++ put (sliceSize n) own q (drop headerSize r)) (update-slice-put n own s (w .least) (w .own) size well)
@@ -79,12 +79,8 @@ module _ (n : ℕ) (r : List ℕ) (w : WellRecord n r) where
 
 -- ---- The table
 
--- Where row p of slice p starts in a record.
-abbrev pub place : ℕ → ℕ → ℕ
-place n p = headerSize + p * sliceSize n + p * rowSize n
-
 module _ {n : ℕ} {t : List ℕ} (w : WellTable n t) {p : ℕ} (h : p < n) where
-  updated-written : put (recordSize n) p (written (place n p) (rowBytes n (updatedRow n p (tableRows n t p p))) (recordIn n t p)) t
+  updated-written : put (recordSize n) p (written (ownPlace n p) (rowBytes n (updatedRow n p (tableRows n t p p))) (recordIn n t p)) t
       ≡ tableBytes n (updatedTable n p (tableRows n t))
   unfolding tableRows
   updated-written =
@@ -99,17 +95,17 @@ module _ {n : ℕ} {t : List ℕ} (w : WellTable n t) {p : ℕ} (h : p < n) wher
 
   -- Record p, lent and come back with the new row of 8 cells written as far as it goes.
   module _ (row after : List ℕ) (new : row ≡ rowBytes 8 (updatedRow n p (tableRows n t p p)))
-      (e : after ≡ written (place n p) (take (rowSize n) row) (recordIn n t p)) where
-    same : after ≡ written (place n p) (rowBytes n (updatedRow n p (tableRows n t p p))) (recordIn n t p)
+      (e : after ≡ written (ownPlace n p) (take (rowSize n) row) (recordIn n t p)) where
+    same : after ≡ written (ownPlace n p) (rowBytes n (updatedRow n p (tableRows n t p p))) (recordIn n t p)
     same =
-        e ∙ ap (λ (v : List ℕ). written (place n p) v (recordIn n t p)) (ap (take (rowSize n)) new ∙ row-take n _ short (w .most))
+        e ∙ ap (λ (v : List ℕ). written (ownPlace n p) v (recordIn n t p)) (ap (take (rowSize n)) new ∙ row-take n _ short (w .most))
 
     pub after-long : length after ≡ recordSize n
     after-long =
         let size : length (recordIn n t p) ≡ recordSize n = length-recordIn n t p (w .size) h in
         let wide = length-row n (updatedRow n p (tableRows n t p p)) short in
         ap length same
-        ∙ length-written (place n p) (rowBytes n (updatedRow n p (tableRows n t p p))) (recordIn n t p)
+        ∙ length-written (ownPlace n p) (rowBytes n (updatedRow n p (tableRows n t p p))) (recordIn n t p)
         (omega (arith, size, wide, room (sliceSize n) h, room (rowSize n) h))
         ∙ size
 

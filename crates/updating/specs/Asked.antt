@@ -1,10 +1,10 @@
--- What the update of copy p asks of slice p of its record, and what it has from that. Assumes nothing.
+-- Slice p of the record of copy p: what its update asks of it, what follows from that, and where its row p stands. Assumes nothing.
 use mathlib.Core.Path.{_≡_}
 use mathlib.Core.List.{List}
-use Prim.Native.Nat.{ℕ, _≤_, _<_}
+use Prim.Native.Nat.{ℕ, _+_, _*_, _≤_, _<_}
 use lib.ListN.{length}
 use Rattle.model.specs.Steps.{updatedRow}
-use Rattle.model.specs.Bytes.{sliceSize, rowIn, sliceIn, recordIn}
+use Rattle.model.specs.Bytes.{headerSize, rowSize, sliceSize, rowIn, sliceIn, recordIn}
 use Rattle.laws.specs.Layout.{length-sliceIn}
 use Rattle.laws.specs.WellFormed.{WellSlice, WellTable}
 use Rattle.laws.specs.RoundTrip.{slice-formed}
@@ -12,6 +12,10 @@ use Rattle.laws.specs.UpdateKept.{updated-row}
 use Rattle.slice.specs.Shown.{SliceShown}
 use Rattle.record.specs.Passed.{slice-shown}
 use Rattle.free.specs.Ranged.{Ranged}
+
+-- Where row p of slice p starts in a record.
+abbrev pub ownPlace : ℕ → ℕ → ℕ
+ownPlace n p = headerSize + p * sliceSize n + p * rowSize n
 
 -- It is slice p of a well-formed record with own number p.
 pub record OwnSlice (n p : ℕ) (s : List ℕ) : Type 0 where

@@ -1,6 +1,6 @@
 -- The rows of a slice other than row p, in their order, and the heads of these: what stands among them is the head of a row other than p.
 -- Assumes nothing.
-use mathlib.Core.Path.{_≡_, sym, ap, _∙_}
+use mathlib.Core.Path.{_≡_, _∙_}
 use mathlib.Core.Bool.{true, cond}
 use mathlib.Core.List.{List}
 use Prim.Native.Nat.{ℕ, _+_, _-_, _≤_, _<_}
@@ -27,7 +27,7 @@ pub other-behind : (p k : ℕ) → p ≤ k → other p k ≡ k + 1
 unfolding other
 other-behind p k h = cond-false k (k + 1) (le-ltb k p h)
 
--- Their heads.
+-- The head of the k-th of them.
 unfoldable pub otherHead : ℕ → Slice → ℕ → ℕ
 otherHead p s k = head (s (other p k))
 

@@ -1,16 +1,16 @@
 // The update of one copy of a checked table, in place: the new row is there by value before one byte is written.
 ghost use mathlib.Core.Path.{_≡_};
 ghost use mathlib.Core.List.{_∷_};
-ghost use Prim.Native.Nat.{_+_, _*_, _-_, _<_, _≤_};
+ghost use Prim.Native.Nat.{_+_, _-_, _<_, _≤_};
 ghost use lib.ListN.{length, getD, take};
 ghost use Rattle.parts.specs.Written.{written};
 ghost use Rattle.row.specs.Tab.{tab};
 ghost use Rattle.model.specs.Steps.{updatedRow, updatedTable};
-ghost use Rattle.model.specs.Bytes.{headerSize, rowSize, sliceSize, recordSize, rowBytes, tableBytes, symbolsIn, rowIn, tableRows};
+ghost use Rattle.model.specs.Bytes.{rowSize, recordSize, rowBytes, tableBytes, symbolsIn, rowIn, tableRows};
 ghost use Rattle.slice.specs.Shown.{SliceShown};
 ghost use Rattle.laws.specs.WellFormed.{WellTable};
 ghost use Rattle.updating.specs.Others.{otherHead};
-ghost use Rattle.updating.specs.Asked.{OwnSlice};
+ghost use Rattle.updating.specs.Asked.{OwnSlice, ownPlace};
 
 // The head of the k-th of the rows other than p.
 fn other_head(s: &[u8], n: usize, p: usize, k: usize) -> u8
@@ -55,10 +55,10 @@ pub fn new_row(s: &[u8], n: usize, p: usize) -> [u8; 9]
     requires { ⌜ OwnSlice n p (now s) ⌝ }
     ensures { λ r. ⌜ r ≡ rowBytes 8 (updatedRow n p (rowIn n (now (s .entry)))) ⌝ }
 {
+    let old = slice::row_in(s, n, p);
     let x = free::free_symbol(s, n);
     let heads = other_heads(s, n, p);
     let others = &heads[..n - 1];
-    let old = slice::row_in(s, n, p);
     let kept = row::cut_row(old, others);
     in_front(x, kept)
 }
@@ -66,7 +66,7 @@ pub fn new_row(s: &[u8], n: usize, p: usize) -> [u8; 9]
 // Row p of slice p of a record is written into its place: the first n cells of a row of 8.
 pub fn put_row(r: &mut [u8], n: usize, p: usize, row: &[u8])
     requires { ⌜ (n ≤ 8) × (length (now r) ≡ recordSize n) × (p < n) × (rowSize n ≤ length (now row)) ⌝ }
-    ensures { λ e. ⌜ now (r .exit) ≡ written (headerSize + p * sliceSize n + p * rowSize n) (take (rowSize n) (now (row .entry))) (now (r .entry)) ⌝ }
+    ensures { λ e. ⌜ now (r .exit) ≡ written (ownPlace n p) (take (rowSize n) (now (row .entry))) (now (r .entry)) ⌝ }
 {
     let w = n + 1;
     let at = 4 + p * (n * w) + p * w;

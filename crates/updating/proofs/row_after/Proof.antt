@@ -3,7 +3,6 @@ use mathlib.Core.Path.{ap, _∙_}
 use mathlib.Core.List.{List}
 use Prim.Native.Nat.{ℕ}
 use borrow.Author.Needs.{needs}
-use denote.Ref.{now}
 use Rattle.model.specs.Steps.{updatedRow}
 use Rattle.model.specs.Bytes.{rowBytes, rowIn, sliceIn, recordRows, tableRows}
 use Rattle.updating.specs.Asked.{own-slice}

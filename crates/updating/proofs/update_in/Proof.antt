@@ -1,5 +1,5 @@
 -- `update_in`: the part where record p stands is lent on, and comes back with one row written. Assumes nothing.
-use mathlib.Core.Path.{_≡_, ap, _∙_}
+use mathlib.Core.Path.{_≡_, _∙_}
 use mathlib.Core.List.{List}
 use Prim.Native.Nat.{ℕ, _*_}
 use native.Mathlib.Nat.{add-sub-cancel-left}
@@ -12,7 +12,8 @@ use Rattle.parts.specs.Written.{written, written-put}
 use Rattle.parts.proofs.Front.{lent-back}
 use Rattle.model.specs.Bytes.{rowSize, recordSize, recordIn}
 use Rattle.slice.specs.Places.{sizes}
-use Rattle.updating.proofs.Place.{place, after-long, after-updated}
+use Rattle.updating.specs.Asked.{ownPlace}
+use Rattle.updating.proofs.Place.{after-long, after-updated}
 use Rattle.updating.proofs.update_in.Statement.{statement}
 use Rattle.updating.proofs.update_in.Tie as tie
 
@@ -65,7 +66,7 @@ returns c =
     let t : List ℕ = now (a .t) in
     let row : List ℕ = f .row-after .result in
     let after : List ℕ = q .put-row .last .0 in
-    let e : after ≡ written (place (a .n) (a .p)) (take (rowSize (a .n)) row) (recordIn (a .n) t (a .p)) = rw add-sub-cancel-left at (q .put-row .ensures) in
+    let e : after ≡ written (ownPlace (a .n) (a .p)) (take (rowSize (a .n)) row) (recordIn (a .n) t (a .p)) = rw add-sub-cancel-left at (q .put-row .ensures) in
     let long : length after ≡ recordSize (a .n) = after-long (s .pre .0) (s .pre .1) row after (f .row-after .ensures) e in
     lent-back (a .p * recordSize (a .n)) (recordSize (a .n)) after t long
     ∙ written-put (recordSize (a .n)) (a .p) after t long
