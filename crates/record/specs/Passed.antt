@@ -46,7 +46,7 @@ pub record RowsPassed (n : ℕ) (s : List ℕ) : Type 0 where
   pub formed : all n (λ k. rowFormed n (part (rowSize n) k s)) ≡ true
 
 module _ {n : ℕ} {s : List ℕ} (passed : RowsPassed n s) where
-  pub row-passed : (k : ℕ) → k < n → WellRow n (part (rowSize n) k s)
+  row-passed : (k : ℕ) → k < n → WellRow n (part (rowSize n) k s)
   row-passed k h =
       rowFormed→ n (part (rowSize n) k s) (length-rowIn n s k (passed .long) h)
       (all→ n (λ k. rowFormed n (part (rowSize n) k s)) (passed .formed) k h)

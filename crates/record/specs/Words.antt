@@ -31,7 +31,7 @@ pub record Low (l : List ℕ) : Type 0 where
 
 -- ---- Their digits, and that they fit
 
-pub digit-heads : (n : ℕ) (s : Slice) (x : ℕ) → digit (headMarks n s) x ≡ cond (any n (λ k. eqb (head (s k)) x)) 1 0
+digit-heads : (n : ℕ) (s : Slice) (x : ℕ) → digit (headMarks n s) x ≡ cond (any n (λ k. eqb (head (s k)) x)) 1 0
 unfolding headMarks any
 digit-heads zero s x = rw (zero-div (2 ^ x))
 digit-heads (suc n) s x =
@@ -44,15 +44,15 @@ digit-heads (suc n) s x =
     go false true = refl
     go false false = refl
 
-pub digit-symbols : (l : List ℕ) (x : ℕ) → digit (marks 0 l) x ≡ cond (isIn x l) 1 0
+digit-symbols : (l : List ℕ) (x : ℕ) → digit (marks 0 l) x ≡ cond (isIn x l) 1 0
 digit-symbols l x = digit-marks 0 l x ∙ rw (zero-div (2 ^ x))
 
-pub heads-fit : (n : ℕ) (s : Slice) → ((k : ℕ) → k < n → head (s k) < 64) → headMarks n s < 2 ^ 64
+heads-fit : (n : ℕ) (s : Slice) → ((k : ℕ) → k < n → head (s k) < 64) → headMarks n s < 2 ^ 64
 unfolding headMarks
 heads-fit zero s h = lit< tt
 heads-fit (suc n) s h = mark-fits (headMarks n s) (head (s n)) (heads-fit n s (λ k l. h k (omega arith))) (h n (omega arith))
 
-pub marks-fit : (w : ℕ) (l : List ℕ) → w < 2 ^ 64 → ((x : ℕ) → In x l → x < 64) → marks w l < 2 ^ 64
+marks-fit : (w : ℕ) (l : List ℕ) → w < 2 ^ 64 → ((x : ℕ) → In x l → x < 64) → marks w l < 2 ^ 64
 unfolding marks
 marks-fit w [] f h = f
 marks-fit w (x ∷ l) f h = marks-fit (bitOr w (2 ^ x)) l (mark-fits w x f (h x (inl refl))) (λ y i. h y (inr i))
@@ -62,7 +62,7 @@ marks-fit w (x ∷ l) f h = marks-fit (bitOr w (2 ^ x)) l (mark-fits w x f (h x 
 half : (w x : ℕ) → digit (w / 2) x ≡ digit w (suc x)
 half w x = ap (λ (m : ℕ). m % 2) (div-div-eq-div-mul w 2 (2 ^ x) ∙ ap (λ (m : ℕ). w / m) (mul-comm 2 (2 ^ x) ∙ sym (pow-suc 2 x)))
 
-pub digits-same : (k w v : ℕ) → w < 2 ^ k → v < 2 ^ k → ((x : ℕ) → digit w x ≡ digit v x) → w ≡ v
+digits-same : (k w v : ℕ) → w < 2 ^ k → v < 2 ^ k → ((x : ℕ) → digit w x ≡ digit v x) → w ≡ v
 digits-same zero w v hw hv e = omega arith
 digits-same (suc k) w v hw hv e =
     let p : 2 ^ suc k ≡ 2 ^ k * 2 = pow-suc 2 k in

@@ -19,7 +19,7 @@ use Rattle.slice.specs.Places.{sizes}
 use Rattle.writing.specs.Passing.{passing}
 
 -- One element, and a list behind it.
-pub written-cons : (at x : ℕ) (v l : List ℕ) → at < length l → written (at + 1) v (set l at x) ≡ written at (x ∷ v) l
+written-cons : (at x : ℕ) (v l : List ℕ) → at < length l → written (at + 1) v (set l at x) ≡ written at (x ∷ v) l
 unfolding written
 written-cons at x v l h =
     let front : take (at + 1) (set l at x) ≡ take at l ++ (x ∷ []) = rw add-one (take-suc-set l at x h) in
@@ -37,11 +37,11 @@ cellsTaken x p k = take ((p * 8 + k) * 8 + x .n - (p * 8 + k) * 8) (drop ((p * 8
 
 module _ (x : Rows) (fits : InRoom x) (few : x .n ≤ 8) (p : ℕ) (lp : p < x .n) where
   module _ (k : ℕ) (lk : k < x .n) where
-    pub row-bytes : rowPassed x p k ≡ getD (x .lengths) (p * 8 + k) 0 ∷ cellsTaken x p k
+    row-bytes : rowPassed x p k ≡ getD (x .lengths) (p * 8 + k) 0 ∷ cellsTaken x p k
     unfolding rowPassed part
     row-bytes = rw (add-sub-cancel-left ((p * 8 + k) * 8) (x .n), take-take (x .n) most (drop ((p * most + k) * most) (x .cells)) few)
 
-    pub row-wide : length (rowPassed x p k) ≡ rowSize (x .n)
+    row-wide : length (rowPassed x p k) ≡ rowSize (x .n)
     row-wide =
         let long : x .n ≤ length (drop ((p * 8 + k) * 8) (x .cells)) = rw length-drop (omega (arith, fits .cells)) in
         rw (row-bytes, add-sub-cancel-left ((p * 8 + k) * 8) (x .n)) (omega (arith, length-take-le (x .n) (drop ((p * 8 + k) * 8) (x .cells)) long))

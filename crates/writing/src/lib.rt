@@ -16,7 +16,7 @@ ghost use Rattle.laws.specs.Given.{InRoom};
 ghost use Rattle.writing.specs.Passing.{passing};
 
 // Slice p of the record that would be written: for each row its length and the first N cells of its room.
-fn slice_passed(lengths: &[u8], cells: &[u8], n: usize, p: usize) -> [u8; 72]
+fn slice_passed<'a>(lengths: &'a [u8], cells: &'a [u8], n: usize, p: usize) -> [u8; 72]
     requires { ⌜ InRoom (passing n 0 (now lengths) (now cells)) × (n ≤ 8) × (p < n) ⌝ }
     ensures { λ x. ⌜ take (sliceSize n) x ≡ join n (rowPassed (passing n 0 (now (lengths .entry)) (now (cells .entry))) p) ⌝ }
 {
@@ -33,7 +33,7 @@ fn slice_passed(lengths: &[u8], cells: &[u8], n: usize, p: usize) -> [u8; 72]
 }
 
 // Every slice that would be written is well formed.
-fn slices_passed(lengths: &[u8], cells: &[u8], n: usize, own: usize) -> bool
+fn slices_passed<'a>(lengths: &'a [u8], cells: &'a [u8], n: usize, own: usize) -> bool
     requires { ⌜ InRoom (passing n own (now lengths) (now cells)) × (n ≤ 8) × (own < n) ⌝ }
     ensures { λ x. ⌜ x ≡ all n (λ p. sliceFormed n own (join n (rowPassed (passing n own (now (lengths .entry)) (now (cells .entry))) p))) ⌝ }
 {
@@ -49,7 +49,7 @@ fn slices_passed(lengths: &[u8], cells: &[u8], n: usize, own: usize) -> bool
 }
 
 // What writing answers: refusals 2 and 3 for the buffer, then 4 if the record would not be well formed.
-fn write_answer(r: &[u8], lengths: &[u8], cells: &[u8], n: usize, own: usize) -> Done
+fn write_answer<'a>(r: &[u8], lengths: &'a [u8], cells: &'a [u8], n: usize, own: usize) -> Done
     requires { ⌜ InRoom (passing n own (now lengths) (now cells)) ⌝ }
     ensures { λ x. ⌜ saidDone x ≡ writeSays (now (r .entry)) (passing n own (now (lengths .entry)) (now (cells .entry))) ⌝ }
 {
@@ -69,7 +69,7 @@ fn write_answer(r: &[u8], lengths: &[u8], cells: &[u8], n: usize, own: usize) ->
 }
 
 // The record, over the old bytes: its header, then slice by slice.
-fn put_record(r: &mut [u8], lengths: &[u8], cells: &[u8], n: usize, own: usize)
+fn put_record<'a>(r: &mut [u8], lengths: &'a [u8], cells: &'a [u8], n: usize, own: usize)
     requires { ⌜ InRoom (passing n own (now lengths) (now cells)) × (n ≤ 8) × (own < n) × (length (now r) ≡ recordSize n) ⌝ }
     ensures { λ x. ⌜ now (r .exit) ≡ recordPassed (passing n own (now (lengths .entry)) (now (cells .entry))) ⌝ }
 {
@@ -89,12 +89,10 @@ pub fn write_rows(r: &mut [u8], rows: Rows) -> Done
 {
     let n = rows.n;
     let own = rows.own;
-    let lengths = rows.lengths;
-    let cells = rows.cells;
-    let answer = write_answer(r, &lengths, &cells, n, own);
+    let answer = write_answer(r, &rows.lengths, &rows.cells, n, own);
     let Done::Ok = answer else {
         return answer;
     };
-    put_record(r, &lengths, &cells, n, own);
+    put_record(r, &rows.lengths, &rows.cells, n, own);
     Done::Ok
 }

@@ -11,14 +11,8 @@ use Rattle.writing.proofs.put_record.Reads as put-record-reads
 use Rattle.writing.proofs.write_answer.Reads as write-answer-reads
 
 -- The arrays of the rows passed are as long as their types say.
-fits : (d : lts.After-cells (write-answer-reads.Asked, write-answer-reads.Learnt, put-record-reads.Asked, put-record-reads.Learnt) reads.Pre reads.Post) → InRoom (d .before .before .before .args .rows)
+fits : (d : lts.After-write-answer-arg5 (write-answer-reads.Asked, write-answer-reads.Learnt, put-record-reads.Asked, put-record-reads.Learnt) reads.Pre reads.Post) → InRoom (d .before .before .before .before .before .before .before .args .t2)
 fits d = record { lengths = search needs; cells = search needs }
-
-slice-aggregate-write-answer : tie.Need-slice-aggregate-write-answer
-slice-aggregate-write-answer c = search needs
-
-slice-aggregate-write-answer-2 : tie.Need-slice-aggregate-write-answer-2
-slice-aggregate-write-answer-2 c = search needs
 
 write-answer-requires : tie.Need-write-answer-requires
 write-answer-requires c κs = search needs
@@ -35,24 +29,16 @@ same-length c = search needs
 returns : tie.Need-returns
 returns c =
     let w = c .before .before in
-    let s = w .before .before .before .before .before .before .before in
-    let f = fits (w .before .before .before .before) in
-    write-refusal (now (s .args .r)) (s .args .rows) f (w .write-answer .result) (w .write-answer .ensures) (c .enum-told2 .given .0 .0) (c .enum-told2 .given .1)
-
-slice-aggregate-put-record : tie.Need-slice-aggregate-put-record
-slice-aggregate-put-record c = search needs
-
-slice-aggregate-put-record-2 : tie.Need-slice-aggregate-put-record-2
-slice-aggregate-put-record-2 c = search needs
+    let s = w .before .before .before .before .before .before .before .before in
+    write-refusal (now (s .args .r)) (s .args .t2) (fits (w .before)) (w .write-answer .result) (w .write-answer .ensures) (c .enum-told2 .given .0 .0) (c .enum-told2 .given .1)
 
 put-record-requires : tie.Need-put-record-requires
 put-record-requires c κs =
-    let k = c .before .before .before in
+    let k = c .before .before .before .before .before .before in
     let w = k .before .before in
-    let s = w .before .before .before .before .before .before .before in
-    let f = fits (w .before .before .before .before) in
-    let o = write-room (now (s .args .r)) (s .args .rows) f (w .write-answer .result) (w .write-answer .ensures) (k .enum-told .given .1) in
-    (f, o .0, o .1, o .2)
+    let s = w .before .before .before .before .before .before .before .before in
+    let o = write-room (now (s .args .r)) (s .args .t2) (fits (w .before)) (w .write-answer .result) (w .write-answer .ensures) (k .enum-told .given .1) in
+    (fits (w .before), o .0, o .1, o .2)
 
 same-length-2 : tie.Need-same-length-2
 same-length-2 c = search needs
@@ -60,25 +46,20 @@ same-length-2 c = search needs
 returns-2 : tie.Need-returns-2
 returns-2 c =
     let p = c .before .before in
-    let k = p .before .before .before .before in
+    let k = p .before .before .before .before .before .before .before in
     let w = k .before .before in
-    let s = w .before .before .before .before .before .before .before in
-    let f = fits (w .before .before .before .before) in
-    write-owed (now (s .args .r)) (s .args .rows) f (w .write-answer .result) (w .write-answer .ensures) (k .enum-told .given .1) (p .put-record .last .0) (p .put-record .ensures)
+    let s = w .before .before .before .before .before .before .before .before in
+    write-owed (now (s .args .r)) (s .args .t2) (fits (w .before)) (w .write-answer .result) (w .write-answer .ensures) (k .enum-told .given .1) (p .put-record .last .0) (p .put-record .ensures)
 
 pub write-rows-spec : {M : Type 1} → statement M
 write-rows-spec =
     tie.close
     (tie.spec
-    slice-aggregate-write-answer
-    slice-aggregate-write-answer-2
     write-answer-requires
     enum-told
     enum-told-2
     same-length
     returns
-    slice-aggregate-put-record
-    slice-aggregate-put-record-2
     put-record-requires
     same-length-2
     returns-2)
