@@ -1,2 +1,3 @@
 pub mod Pairs
+pub mod Rewritten
 pub mod Going

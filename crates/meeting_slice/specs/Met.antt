@@ -21,7 +21,7 @@ pub record MetSlices (n a b p : ℕ) (x y : Record) (u v : List ℕ) : Type 0 wh
   pub second : take (sliceSize n) v ≡ sliceBytes n (metRecord n a b x y y x p)
 
 -- The cut row is no longer than W.
-pub cut-length : (n a b : ℕ) (x y : Slice) → length (cutRow n a b x y) ≤ length (winningRow a b x y)
+cut-length : (n a b : ℕ) (x y : Slice) → length (cutRow n a b x y) ≤ length (winningRow a b x y)
 unfolding cutRow
 cut-length n a b x y = keep-length (λ s. any n (λ k. eqb (newHeads a b x y k) s)) (winningRow a b x y)
 

@@ -33,7 +33,7 @@ unfolding headFrom
 head-other a b w loser winner k e = rw e
 
 -- A function's values do not change where the function does not.
-pub tab-same : (n : ℕ) (f g : ℕ → ℕ) → ((k : ℕ) → f k ≡ g k) → tab n f ≡ tab n g
+tab-same : (n : ℕ) (f g : ℕ → ℕ) → ((k : ℕ) → f k ≡ g k) → tab n f ≡ tab n g
 unfolding tab
 tab-same zero f g e = refl
 tab-same (suc n) f g e = ap₂ (λ (l : List ℕ) (x : ℕ). l ++ (x ∷ [])) (tab-same n f g e) (e n)

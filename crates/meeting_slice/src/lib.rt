@@ -1,5 +1,5 @@
-// The meeting of two records, slice by slice: new heads, new rows, and both records written in place. `met` reads all of a slice of both
-// records and gives both results by value, before anything is written.
+// One slice of the meeting of two records: its new heads, the cut row, its new rows. `met` reads all of the slice in both records and gives
+// both results by value; nothing is written here.
 ghost use mathlib.Core.Path.{_≡_};
 ghost use Prim.Native.Nat.{_+_, _*_, _<_};
 ghost use lib.ListN.{length, take};
@@ -47,32 +47,20 @@ fn heads_from(loser: &[u8], winner: &[u8], w: &[u8], n: usize, a: usize, b: usiz
 }
 
 // The new heads of slice p, w being its winning principal row.
-pub fn new_heads(x: &[u8], y: &[u8], w: &[u8], n: usize, a: usize, b: usize, p: usize) -> [u8; 8]
+fn new_heads(x: &[u8], y: &[u8], w: &[u8], n: usize, a: usize, b: usize, p: usize) -> [u8; 8]
     requires { ⌜ PairShown n a b (now x) (now y) × (p < n) × (now w ≡ winningRow a b (recordRows n (now x) p) (recordRows n (now y) p)) ⌝ }
     ensures { λ r. ⌜ take n r ≡ tab n (newHeads a b (recordRows n (now (x .entry)) p) (recordRows n (now (y .entry)) p)) ⌝ }
 {
+    let first = slice::slice_at(x, n, p);
+    let second = slice::slice_at(y, n, p);
     if pair::b_wins(x, y, n, a, b, p) {
-        return heads_from(
-            slice::slice_at(x, n, p),
-            slice::slice_at(y, n, p),
-            w,
-            n,
-            a,
-            b,
-        );
+        return heads_from(first, second, w, n, a, b);
     }
-    heads_from(
-        slice::slice_at(y, n, p),
-        slice::slice_at(x, n, p),
-        w,
-        n,
-        a,
-        b,
-    )
+    heads_from(second, first, w, n, a, b)
 }
 
 // The choice between two cached rows: a record keeps its own row if its head didn't change, else takes the other record's.
-pub fn cached_row<'a>(own: &'a [u8], other: &'a [u8], n: usize, k: usize, h: u8) -> &'a [u8]
+fn cached_row<'a>(own: &'a [u8], other: &'a [u8], n: usize, k: usize, h: u8) -> &'a [u8]
     requires { ⌜ SliceShown n (now own) × SliceShown n (now other) × (k < n) ⌝ }
     ensures { λ r. ⌜ now r ≡ rowBytes n (cachedRow h (rowIn n (now (own .entry)) k) (rowIn n (now (other .entry)) k)) ⌝ }
 {
@@ -156,13 +144,7 @@ pub fn met<'a>(x: &'a [u8], y: &'a [u8], n: usize, a: usize, b: usize, p: usize)
     let w = pair::winning(x, y, n, a, b, p);
     let hs = new_heads(x, y, w, n, a, b, p);
     let cut = row::cut_row(w, &hs[..n]);
-    both_rows(
-        slice::slice_at(x, n, p),
-        slice::slice_at(y, n, p),
-        &hs[..n],
-        &cut[..n + 1],
-        n,
-        a,
-        b,
-    )
+    let first = slice::slice_at(x, n, p);
+    let second = slice::slice_at(y, n, p);
+    both_rows(first, second, &hs[..n], &cut[..n + 1], n, a, b)
 }

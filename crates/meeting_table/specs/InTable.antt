@@ -34,14 +34,14 @@ module _ (n c p : ℕ) (v t : List ℕ) (long : length t ≡ tableSize n) (own :
       let size : length (recordIn n t c) ≡ recordSize n = length-recordIn n t c long own in
       length-written (headerSize + p * sliceSize n) v (recordIn n t c) (omega (arith, room (sliceSize n) less)) ∙ size
 
-  pub length-after : length after ≡ tableSize n
+  length-after : length after ≡ tableSize n
   length-after = length-put (recordSize n) c _ t fits length-within ∙ long
 
-  pub record-after : recordIn n after c ≡ written (headerSize + p * sliceSize n) v (recordIn n t c)
+  record-after : recordIn n after c ≡ written (headerSize + p * sliceSize n) v (recordIn n t c)
   unfolding recordIn
   record-after = part-put (recordSize n) c _ t fits length-within
 
-  pub others-after : (d : ℕ) → (d ≡ c → ⊥) → recordIn n after d ≡ recordIn n t d
+  others-after : (d : ℕ) → (d ≡ c → ⊥) → recordIn n after d ≡ recordIn n t d
   unfolding recordIn
   others-after d ne = part-put-other (recordSize n) c _ t fits length-within d ne
 

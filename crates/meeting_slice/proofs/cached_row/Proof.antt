@@ -16,7 +16,9 @@ add-part-at : tie.Need-add-part-at
 add-part-at c = omega (arith, c .before .before .before .before .pre .0 .few)
 
 part-at-requires : tie.Need-part-at-requires
-part-at-requires c κs = let s = c .before .before .before .before in row-fits (s .pre .0) (s .args .k) (s .pre .2)
+part-at-requires c κs =
+    let s = c .before .before .before .before in
+    omega (arith, row-fits (s .pre .0) (s .args .k) (s .pre .2), row-fits (s .pre .1) (s .args .k) (s .pre .2))
 
 returns : tie.Need-returns
 returns c =
@@ -30,7 +32,9 @@ add-part-at-2 : tie.Need-add-part-at-2
 add-part-at-2 c = omega (arith, c .before .before .before .before .pre .0 .few)
 
 part-at-requires-2 : tie.Need-part-at-requires-2
-part-at-requires-2 c κs = let s = c .before .before .before .before in row-fits (s .pre .1) (s .args .k) (s .pre .2)
+part-at-requires-2 c κs =
+    let s = c .before .before .before .before in
+    omega (arith, row-fits (s .pre .0) (s .args .k) (s .pre .2), row-fits (s .pre .1) (s .args .k) (s .pre .2))
 
 returns-2 : tie.Need-returns-2
 returns-2 c =
