@@ -24,7 +24,7 @@ pub good-same :
     → ((c k : ℕ) → c < N → k < N → st′ c k ≡ st c k)
     → ((c : ℕ) → c < N → vv′ c ≡ vv c)
     → Good N p st′ vv′
-good-same {st′ = st′} g same counts =
+good-same g same counts =
     let I = g .inv in
     record {
       m = g .m;

@@ -23,6 +23,7 @@ use Rattle.history.specs.Upd.{Upd, update-good}
 use Rattle.history.specs.Answer.{answer-says}
 use Rattle.history.specs.Slice.{good-same, fresh-good, met-good}
 
+-- Every slice is explained by a history, and every record is well formed.
 pub record Fine (n : ℕ) (t : Table) (v : Vectors) : Type 0 where
   pub slice : (p : ℕ) → p < n → Good n p (λ c k. t c p k) (λ c. v c p)
   pub formed : FormedTable n t
