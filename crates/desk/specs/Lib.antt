@@ -1,0 +1,4 @@
+pub mod Desk
+pub mod Cases
+pub mod Kept
+pub mod Running
