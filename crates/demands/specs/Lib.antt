@@ -14,5 +14,7 @@ pub mod Empty
 pub mod Serves
 pub mod Contracts
 pub mod Helpers
+pub mod Program
 pub mod Lived
 pub mod Library
+pub mod Possible
