@@ -112,6 +112,10 @@ else
   yes '' 2>/dev/null | head -c 65537 >"$room/over"
   same "65,537 empty lines" "$room/over" "$room/over.out"
 
+  # A read that fails, here of a folder, writes nothing.
+  ./stampdesk </ >"$room/ours" 2>/dev/null
+  if [ -s "$room/ours" ]; then fail "a failed read: something was written"; else passed=$((passed + 1)); fi
+
   mkdir "$room/programs"
   generate "$programs" "$room/programs"
   [ "$(find "$room/programs" -name '*.in' | wc -l)" -eq "$programs" ] || fail "not $programs generated programs"

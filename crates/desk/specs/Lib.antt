@@ -1,4 +1,5 @@
 pub mod Desk
 pub mod Cases
+pub mod Numbers
 pub mod Kept
 pub mod Running
