@@ -1,12 +1,12 @@
 -- The copies of a checked table: what the check has shown, how two copies compare, and which are superfluous. Assumes nothing.
 use mathlib.Core.Path.{_≡_}
-use mathlib.Core.Bool.{Bool, true, false, cond, not, _&&_}
+use mathlib.Core.Bool.{Bool, true, false, not, _&&_}
 use mathlib.Core.List.{List}
-use Prim.Native.Nat.{ℕ, _+_, _*_, _≤_, _<_}
+use Prim.Native.Nat.{ℕ, _≤_, _<_}
 use lib.ListN.{length}
 use lib.Dec.{eqb}
 use Rattle.model.specs.Tests.{any}
-use Rattle.model.specs.Steps.{Table, unrelated, comparison, isSuperfluous, isCovered}
+use Rattle.model.specs.Steps.{Table, unrelated, comparison, isCovered}
 use Rattle.model.specs.Bytes.{tableSize, recordIn}
 use Rattle.model.specs.declared.Order.{Order}
 use Rattle.slice.specs.Shown.{RecordShown}

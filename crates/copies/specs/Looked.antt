@@ -8,7 +8,7 @@ use Rattle.model.specs.Tests.{any}
 use Rattle.model.specs.Steps.{Table, isCovered}
 use Rattle.facts.specs.Numbers.{any-next, →any}
 use Rattle.copies.specs.declared.Cover.{Cover}
-use Rattle.copies.specs.declared.Cover.the-variants.{Unrelated, Covered, Uncovered}
+use Rattle.copies.specs.declared.Cover.the-variants.{Unrelated}
 use Rattle.copies.specs.Copies.{apart, order, apartFrom, coveredBy, coverOf, orCovered}
 
 -- What copy j does to copy i from the three tests.

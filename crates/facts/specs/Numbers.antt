@@ -79,6 +79,18 @@ pub all-next : (n : ℕ) (f : ℕ → Bool) → all (n + 1) f ≡ (all n f && f 
 unfolding all
 all-next n f = rw add-one
 
+-- A loop that leaves at the first number that fails, in the code's `k + 1`.
+module _ (f : ℕ → Bool) where
+  pub all-start : all 0 f ≡ true
+  unfolding all
+  all-start = refl
+
+  pub all-turn : (k : ℕ) → all k f ≡ true → f k ≡ true → all (k + 1) f ≡ true
+  all-turn k e h = all-next k f ∙ →both e h
+
+  pub all-end : (k n : ℕ) → all k f ≡ true → k ≤ n → n ≤ k → all n f ≡ true
+  all-end k n e h l = let same : n ≡ k = omega arith in rw same e
+
 pub all-same : (n : ℕ) (f g : ℕ → Bool) → ((k : ℕ) → k < n → f k ≡ g k) → all n f ≡ all n g
 unfolding all
 all-same zero f g e = refl

@@ -29,7 +29,7 @@ module _ (l : List ℕ) (i : ℕ) (h : i < length l) where
   front : take (i + 1) l ≡ take i l ++ (getD l i 0 ∷ [])
   front = rw add-one (take-suc l i 0 h)
 
-  rest : drop i l ≡ getD l i 0 ∷ drop (i + 1) l
+  pub rest : drop i l ≡ getD l i 0 ∷ drop (i + 1) l
   rest = rw add-one (drop-cons l i 0 h)
 
   -- ---- The front, one place longer

@@ -1,13 +1,9 @@
--- The symbols in use as bits of a word: one symbol more, one row more, and the smallest that is free. Assumes nothing.
+-- The symbols in use as bits of a word: one row more, and the smallest that is free. Assumes nothing.
 use mathlib.Core.Path.{_≡_, refl, sym, _∙_}
 use mathlib.Core.Bool.{Bool, true, false, cond, not}
-use mathlib.Core.List.{List}
-use Prim.Native.Nat.{ℕ, zero, suc, _+_, _*_, _≤_, _<_, _^_}
+use Prim.Native.Nat.{ℕ, zero, suc, _+_, _*_, _<_, _^_}
 use native.Mathlib.Nat.{zero-div}
 use native.Mathlib.Numerals.{add-one}
-use lib.ListN.{length, getD, drop, drop-of-length-le}
-use lib.Seq.{drop-cons}
-use lib.Bits.{bitOr}
 use lib.Dec.{eqb}
 use Rattle.parts.specs.Parts.{join}
 use Rattle.model.specs.Tests.{any, least, isIn}
@@ -16,14 +12,6 @@ use Rattle.facts.specs.Members.{isIn-append}
 use Rattle.facts.specs.Numbers.{least-same}
 use Rattle.symbols.specs.Marks.{digit, marks}
 use Rattle.symbols.proofs.Digits.{digit-marks, marks-append}
-
-pub mark-next : (w : ℕ) (l : List ℕ) (i : ℕ) → i < length l → marks w (drop i l) ≡ marks (bitOr w (2 ^ getD l i 0)) (drop (i + 1) l)
-unfolding marks
-mark-next w l i h = rw (add-one i, drop-cons l i 0 h)
-
-pub mark-end : (w : ℕ) (l : List ℕ) (i : ℕ) → length l ≤ i → marks w (drop i l) ≡ w
-unfolding marks
-mark-end w l i h = rw (drop-of-length-le l h)
 
 pub row-marked : (f : Slice) (k : ℕ) → marks (marks 0 (join k f)) (f k) ≡ marks 0 (join (k + 1) f)
 unfolding join

@@ -2,12 +2,8 @@
 use mathlib.Core.List.{List}
 use Prim.Native.Nat.{ℕ, _*_, _<_}
 use Rattle.model.specs.Bytes.{rowIn}
-use Rattle.facts.specs.Members.{In}
+use Rattle.symbols.specs.Marks.{Below}
 use Rattle.slice.specs.Shown.{SliceShown}
-
--- Every symbol of the row is below m.
-abbrev pub Below : ℕ → List ℕ → Type 0
-Below m l = (x : ℕ) → In x l → x < m
 
 -- Its rows can be read, and their symbols are in range.
 pub record Ranged (n : ℕ) (s : List ℕ) : Type 0 where

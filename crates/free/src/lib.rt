@@ -1,28 +1,14 @@
 // The smallest symbol that stands in no row of a slice, found in a word that has a bit for each symbol.
 use slice;
 ghost use mathlib.Core.Path.{_≡_};
-ghost use Prim.Native.Nat.{_≤_, _^_};
+ghost use Prim.Native.Nat.{_≤_};
 ghost use lib.Dec.{eqb};
 ghost use Rattle.parts.specs.Parts.{join};
 ghost use Rattle.model.specs.Tests.{least};
 ghost use Rattle.model.specs.Steps.{newSymbol};
 ghost use Rattle.model.specs.Bytes.{rowIn};
 ghost use Rattle.symbols.specs.Marks.{digit, marks};
-ghost use Rattle.free.specs.Ranged.{Below, Ranged};
-
-// The word with the bit of each symbol of the row set too.
-fn mark(w: u64, l: &[u8]) -> u64
-    requires { ⌜ Below 64 (now l) ⌝ }
-    ensures { λ r. ⌜ r ≡ marks w (now (l .entry)) ⌝ }
-{
-    let mut all = w;
-    let mut i = 0;
-    while i < l.len() {
-        all |= 1 << l[i];
-        i += 1;
-    }
-    all
-}
+ghost use Rattle.free.specs.Ranged.{Ranged};
 
 // The word with the bit of each symbol that stands in some row of the slice.
 fn used(s: &[u8], n: usize) -> u64
@@ -32,7 +18,7 @@ fn used(s: &[u8], n: usize) -> u64
     let mut w: u64 = 0;
     let mut k = 0;
     while k < n {
-        w = mark(w, slice::row_in(s, n, k));
+        w = symbols::mark(w, slice::row_in(s, n, k));
         k += 1;
     }
     w

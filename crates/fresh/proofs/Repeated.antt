@@ -1,30 +1,17 @@
 -- A part written n times behind a header, and fresh rows, slices and records as such. Assumes nothing.
-use mathlib.Core.Path.{_≡_, refl, sym, ap, ap₂, _∙_}
-use mathlib.Core.List.{List, [], _∷_, _++_, append-assoc}
-use Prim.Native.Nat.{ℕ, zero, suc, _+_, _*_, _-_, _≤_, _<_}
+use mathlib.Core.Path.{_≡_, refl, sym, ap, _∙_}
+use mathlib.Core.List.{List, [], _∷_, _++_}
+use Prim.Native.Nat.{ℕ, _+_, _*_, _-_, _≤_}
 use native.Mathlib.Nat.{zero-add}
 use native.Mathlib.Omega.{arith}
-use lib.ListN.{length, take, drop, take-append-drop, length-take, length-drop}
+use lib.ListN.{length, take}
 use lib.Seq.{take-all}
-use Rattle.parts.specs.Parts.{join, length-join, join-same, room}
+use Rattle.parts.specs.Parts.{join, room, length-repeated}
 use Rattle.parts.specs.Written.{written, length-written, take-written}
-use Rattle.parts.proofs.Front.{Front}
 use Rattle.model.specs.Steps.{freshRows}
-use Rattle.model.specs.Bytes.{rowSize, sliceSize, recordSize, rowBytes, sliceBytes, headerBytes, recordBytes, unused}
+use Rattle.model.specs.Bytes.{rowSize, sliceSize, recordSize, rowBytes, sliceBytes, headerBytes, recordBytes}
 use Rattle.laws.specs.Layout.{length-row, length-sliceBytes, length-recordBytes}
 use Rattle.row.proofs.Rows.{row-take}
-
--- What a loop that wrote n parts behind a header leaves.
-pub front-written : {h w n : ℕ} {f : ℕ → List ℕ} {old l : List ℕ} → Front h w n f old l → length (join n f) ≡ n * w → l ≡ written h (join n f) old
-unfolding written
-front-written {h} {w} {n} {f} {old} {l} so long =
-    sym (take-append-drop (h + n * w) l)
-    ∙ ap₂ _++_ (so .done) (so .rest)
-    ∙ append-assoc (take h old) (join n f) (drop (h + n * w) old)
-    ∙ ap (λ (m : ℕ). take h old ++ (join n f ++ drop (h + m) old)) (sym long)
-
-pub length-repeated : (n : ℕ) (v : List ℕ) → length (join n (λ k. v)) ≡ n * length v
-length-repeated n v = length-join (length v) n (λ k. v) (λ k h. refl)
 
 -- A fresh row of 8 cells, and its first N + 1 bytes.
 abbrev pub freshRow : List ℕ
@@ -59,10 +46,15 @@ header-body h v r four long =
     sym all ∙ take-written 4 v (written 0 h r) whole ∙ ap (λ (x : List ℕ). x ++ v) front
 
 -- A fresh record: its header, and N times the fresh slice.
-pub fresh-record-bytes : (n own : ℕ) (s : List ℕ) → s ≡ sliceBytes n (λ k. 0 ∷ [])
-    → (0xB5 ∷ 0x0A ∷ n ∷ own ∷ []) ++ join n (λ p. s) ≡ recordBytes n own (freshRows own)
-unfolding recordBytes headerBytes freshRows
-fresh-record-bytes n own s e = ap (λ (x : List ℕ). (0xB5 ∷ 0x0A ∷ n ∷ own ∷ []) ++ join n (λ p. x)) e
+module _ (n own : ℕ) where
+  pub header-four : length (headerBytes n own (λ p k. [])) ≡ 4
+  unfolding headerBytes
+  header-four = refl
+
+  pub fresh-record-bytes : (s : List ℕ) → s ≡ sliceBytes n (λ k. 0 ∷ [])
+      → headerBytes n own (λ p k. []) ++ join n (λ p. s) ≡ recordBytes n own (freshRows own)
+  unfolding recordBytes headerBytes freshRows
+  fresh-record-bytes s e = ap (λ (x : List ℕ). headerBytes n own (λ p k. []) ++ join n (λ p. x)) e
 
 pub length-fresh-slice : (n : ℕ) → 1 ≤ n → length (sliceBytes n (λ k. 0 ∷ [])) ≡ sliceSize n
 length-fresh-slice n some = length-sliceBytes n (λ k. 0 ∷ []) (λ k h. some)
@@ -70,7 +62,3 @@ length-fresh-slice n some = length-sliceBytes n (λ k. 0 ∷ []) (λ k h. some)
 pub length-fresh-record : (n own : ℕ) → 1 ≤ n → length (recordBytes n own (freshRows own)) ≡ recordSize n
 unfolding freshRows
 length-fresh-record n own some = length-recordBytes n own (λ p k. 0 ∷ []) (λ p k hp hk. some)
-
--- What is lent of a list from one place on, w elements of it.
-pub part-long : (at w : ℕ) (l : List ℕ) → at + w ≤ length l → length (take w (drop at l)) ≡ w
-part-long at w l fits = simp (length-take, length-drop) (omega arith)

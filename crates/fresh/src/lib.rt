@@ -2,7 +2,7 @@
 use model::Done;
 use model::Refusal;
 ghost use mathlib.Core.Path.{_≡_};
-ghost use mathlib.Core.List.{List, [], _∷_, _++_};
+ghost use mathlib.Core.List.{[], _∷_};
 ghost use Prim.Native.Nat.{_+_, _*_, _≤_, _<_};
 ghost use lib.ListN.{length, take};
 ghost use Rattle.parts.specs.Parts.{join};
@@ -42,8 +42,7 @@ fn fresh_record(r: &mut [u8], n: usize, own: usize)
     requires { ⌜ (1 ≤ n) × (n ≤ 8) × (own < n) × (length (now r) ≡ recordSize n) ⌝ }
     ensures { λ x. ⌜ now (r .exit) ≡ recordBytes n own (freshRows own) ⌝ }
 {
-    let h: [u8; 4] = [0xB5, 0x0A, n as u8, own as u8];
-    parts::copy(r, 0, &h);
+    record::put_header(r, n, own);
     let s = fresh_slice(n);
     repeat(r, 4, &s[..n * (n + 1)], n);
 }

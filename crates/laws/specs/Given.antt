@@ -107,7 +107,7 @@ pub record InRoom (x : Rows) : Type 0 where
   pub cells : length (x .cells) ≡ most * (most * most)
 
 module _ (x : Rows) (i : InRoom x) (small : x .n ≤ most) where
-  passed-long : (p k : ℕ) → p < x .n → k < x .n → length (rowPassed x p k) ≡ rowSize (x .n)
+  pub passed-long : (p k : ℕ) → p < x .n → k < x .n → length (rowPassed x p k) ≡ rowSize (x .n)
   unfolding rowPassed
   passed-long p k h l =
       let at : (p * most + k) * most + most ≤ length (x .cells) = omega (arith, i .cells) in
@@ -115,7 +115,7 @@ module _ (x : Rows) (i : InRoom x) (small : x .n ≤ most) where
       let f : length (take (x .n) (part most (p * most + k) (x .cells))) ≡ x .n = length-take-le (x .n) (part most (p * most + k) (x .cells)) (omega arith) in
       omega arith
 
-  slices-long : (p : ℕ) → p < x .n → length (join (x .n) (rowPassed x p)) ≡ sliceSize (x .n)
+  pub slices-long : (p : ℕ) → p < x .n → length (join (x .n) (rowPassed x p)) ≡ sliceSize (x .n)
   slices-long p h = length-join (rowSize (x .n)) (x .n) (rowPassed x p) (λ k l. passed-long p k h l)
 
   -- The record that would be written has the right size, number and own number, and row k of slice p is the row passed.

@@ -83,6 +83,49 @@ answer-either [] a = inl refl
 answer-either (refuse true k ∷ l) a = inr (k, refl)
 answer-either (refuse false k ∷ l) a = answer-either l a
 
+-- ---- Reason by reason
+
+module _ {b : Bool} (k : ℕ) (l : List Reason) (a : Said) where
+  -- The first reason applies, or does not.
+  pub answer-now : b ≡ true → answer (refuse b k ∷ l) a ≡ refused k
+  unfolding answer
+  answer-now e = rw e
+
+  pub answer-later : b ≡ false → answer (refuse b k ∷ l) a ≡ answer l a
+  unfolding answer
+  answer-later e = rw e
+
+pub answer-own : (a : Said) → answer [] a ≡ a
+unfolding answer
+answer-own a = refl
+
+-- A refusal of the check is the call's.
+pub answer-front : (l m : List Reason) (a : Said) (k : ℕ) → answer l done ≡ refused k → answer (l ++ m) a ≡ refused k
+unfolding answer
+answer-front [] m a k e = absurd (own-not done k refl e)
+answer-front (refuse true j ∷ l) m a k e = e
+answer-front (refuse false j ∷ l) m a k e = answer-front l m a k e
+
+-- Behind a check that passed, the other reasons decide.
+pub answer-behind : (l m : List Reason) (a : Said) → answer l done ≡ done → answer (l ++ m) a ≡ answer m a
+unfolding answer
+answer-behind [] m a e = refl
+answer-behind (refuse true j ∷ l) m a e = absurd (own-not done j refl (sym e))
+answer-behind (refuse false j ∷ l) m a e = answer-behind l m a e
+
+-- The same reasons before another answer: a comparison's refusal is a meeting's, and where it answers, so does the meeting.
+pub refused-same : (l : List Reason) (m k : ℕ) → answer l (ordered m) ≡ refused k → answer l done ≡ refused k
+unfolding answer
+refused-same [] m k e = absurd (own-not (ordered m) k refl e)
+refused-same (refuse true j ∷ l) m k e = e
+refused-same (refuse false j ∷ l) m k e = refused-same l m k e
+
+pub ordered-done : (l : List Reason) (m k : ℕ) → answer l (ordered m) ≡ ordered k → answer l done ≡ done
+unfolding answer
+ordered-done [] m k e = refl
+ordered-done (refuse true j ∷ l) m k e = absurd (own-not (ordered k) j refl (sym e))
+ordered-done (refuse false j ∷ l) m k e = ordered-done l m k e
+
 -- ---- The first ground that holds is the answer
 
 pub say-append : (l l′ : List Reason) (g g′ : List Ground) → SaySame l g → (NoGround g → SaySame l′ g′) → SaySame (l ++ l′) (g ++ g′)

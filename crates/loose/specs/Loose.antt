@@ -1,6 +1,6 @@
 -- Two loose records side by side: the refusals before 7, and what they leave to the pair. Assumes nothing.
 use mathlib.Core.Path.{_≡_, refl, sym, ap, _∙_}
-use mathlib.Core.Bool.{Bool, true, false, not, _&&_}
+use mathlib.Core.Bool.{true, not, _&&_}
 use mathlib.Core.List.{List, [], _∷_, _++_, append-assoc}
 use Prim.Native.Nat.{ℕ}
 use lib.Dec.{eqb}
@@ -10,12 +10,11 @@ use Rattle.model.specs.Steps.{unrelated}
 use Rattle.model.specs.Bytes.{copiesIn, ownIn, recordRows}
 use Rattle.model.specs.Calls.{recordReasons, pairReasons, checkRecordSays}
 use Rattle.facts.specs.Cases.{both→, true-not, false-not}
-use Rattle.laws.specs.Reasons.{accepted-append, accepted-answer}
+use Rattle.laws.specs.Reasons.{accepted-append, accepted-answer, answer-front, answer-behind, answer-now, answer-later, answer-own}
 use Rattle.laws.specs.WellFormed.{WellRecord}
 use Rattle.laws.specs.Accepted.{record-accepted→}
 use Rattle.record.specs.Passed.{record-shown}
 use Rattle.pair.specs.Pair.{PairShown}
-use Rattle.table.specs.Chain.{answer-front, answer-behind, answer-now, answer-later, answer-own}
 
 -- 1 to 4 of the first, 1 to 4 of the second, then 8, 6.
 unfoldable pub formReasonsOfTwo : List ℕ → List ℕ → List Reason

@@ -3,10 +3,9 @@ use model::Compared;
 use model::Done;
 use model::Refusal;
 ghost use mathlib.Core.Path.{_≡_};
-ghost use mathlib.Core.Bool.{not};
-ghost use mathlib.Core.List.{List, [], _∷_, _++_};
+ghost use mathlib.Core.List.{[], _∷_};
 ghost use Rattle.model.specs.Answers.{saidDone, saidCompared, done, answer};
-ghost use Rattle.model.specs.Calls.{recordReasons, compareRecordsSays, meetRecordsSays, meetRecordsLeavesFirst, meetRecordsLeavesSecond};
+ghost use Rattle.model.specs.Calls.{compareRecordsSays, meetRecordsSays, meetRecordsLeavesFirst, meetRecordsLeavesSecond};
 ghost use Rattle.model.specs.Promises.{Owed};
 ghost use Rattle.loose.specs.Loose.{formReasonsOfTwo};
 

@@ -1,15 +1,13 @@
 -- A record whose slices are written one behind another: those below p are new, the rest is as it was, and what was shown of the record is
 -- so all the way. Assumes nothing.
 use mathlib.Core.Path.{_≡_, refl, sym, ap, ap₂, _∙_}
-use mathlib.Core.List.{List, _++_, append-assoc}
+use mathlib.Core.List.{List, _++_}
 use Prim.Native.Nat.{ℕ, _+_, _*_, _-_, _≤_, _<_}
-use native.Mathlib.Nat.{add-mul}
 use native.Mathlib.Omega.{arith}
-use lib.ListN.{length, take, drop, take-append-drop}
-use lib.Seq.{drop-drop, length-take-le, drop-at}
-use Rattle.parts.specs.Parts.{room, part, join, length-join, part-join, part-front}
+use lib.ListN.{length, take}
+use Rattle.parts.specs.Parts.{room}
 use Rattle.parts.specs.Written.{written}
-use Rattle.parts.proofs.Front.{Front, front-start, front-part, front-next, front-end}
+use Rattle.parts.proofs.Front.{Front, front-start, front-part, front-next, front-end, front-done, front-rest}
 use Rattle.model.specs.Steps.{Record}
 use Rattle.model.specs.Bytes.{headerSize, sliceSize, sliceBytes, headerBytes, recordBytes, ownIn, rowIn, sliceIn, recordRows}
 use Rattle.facts.specs.Cases.{by-lt}
@@ -19,32 +17,6 @@ use Rattle.laws.specs.WellFormed.{WellRecord}
 use Rattle.laws.specs.RoundTrip.{slice-fits, →well-slice, record-form}
 use Rattle.slice.specs.Shown.{SliceShown, RecordShown}
 use Rattle.record.specs.Passed.{slice-shown}
-
--- ---- Parts written one behind another: each part below s is the new one, each from s on the old one
-
-module _ {h w s : ℕ} {f : ℕ → List ℕ} {old l : List ℕ} (so : Front h w s f old l) where
-  pub front-done : h ≤ length old → ((k : ℕ) → k < s → length (f k) ≡ w) → (k : ℕ) → k < s → part w k (drop h l) ≡ f k
-  front-done fits wide k less =
-      let rest : List ℕ = drop (h + s * w) l in
-      let body : length (join s f) ≡ s * w = length-join w s f wide in
-      let whole : l ≡ take h old ++ (join s f ++ rest) =
-      sym (take-append-drop (h + s * w) l)
-      ∙ ap (λ (q : List ℕ). q ++ rest) (so .done)
-      ∙ append-assoc (take h old) (join s f) rest in
-      ap (part w k) (ap (drop h) whole ∙ drop-at (take h old) (join s f ++ rest) h (length-take-le h old fits))
-      ∙ part-front w k (join s f) rest (rw body (room w less))
-      ∙ part-join w s f wide k less
-
-  pub front-rest : (k : ℕ) → s ≤ k → part w k (drop h l) ≡ part w k (drop h old)
-  unfolding part
-  front-rest k over = ap (take w) (from l ∙ ap (drop ((k - s) * w)) (so .rest) ∙ sym (from old))
-    where
-      from : (q : List ℕ) → drop (k * w) (drop h q) ≡ drop ((k - s) * w) (drop (h + s * w) q)
-      from q =
-          let more : s + (k - s) ≡ k = omega arith in
-          let at : k * w ≡ s * w + (k - s) * w = ap (λ (m : ℕ). m * w) (sym more) ∙ add-mul s (k - s) w in
-          let place : h + k * w ≡ h + s * w + (k - s) * w = omega arith in
-          drop-drop (k * w) h q ∙ ap (λ (m : ℕ). drop m q) place ∙ sym (drop-drop ((k - s) * w) (h + s * w) q)
 
 -- ---- One record
 

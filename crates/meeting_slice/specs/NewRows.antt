@@ -1,20 +1,20 @@
 -- One slice of a meeting as code takes it: new heads from the loser's rows and the winner's, new rows as the bytes that are copied; and
 -- that these are document 01's. Assumes nothing.
-use mathlib.Core.Path.{_≡_, refl, ap₂}
+use mathlib.Core.Path.{_≡_}
 use mathlib.Core.Bool.{true, false, cond}
-use mathlib.Core.List.{List, [], _∷_, _++_}
-use Prim.Native.Nat.{ℕ, zero, suc, _+_, _≤_, _<_}
+use mathlib.Core.List.{List}
+use Prim.Native.Nat.{ℕ, _≤_, _<_}
 use lib.ListN.{length, getD}
 use lib.Dec.{eqb}
 use borrow.Author.Tests.{eq-eqb, ne-eqb}
-use Rattle.parts.specs.Parts.{part, join, join-same}
+use Rattle.parts.specs.Parts.{join, join-same}
 use Rattle.model.specs.Tests.{head}
 use Rattle.model.specs.Steps.{Slice, bWins, winningRow, newHead, isNamed, newHeads, cutRow, cachedRow, metRow, metRecord}
 use Rattle.model.specs.Bytes.{rowSize, rowBytes, sliceBytes, rowIn, sliceIn, recordRows}
 use Rattle.facts.specs.Cases.{by-test, cond-has}
-use Rattle.row.specs.Tab.{tab, getD-tab}
+use Rattle.row.specs.Tab.{tab, getD-tab, tab-same}
 use Rattle.slice.specs.Shown.{SliceShown}
-use Rattle.slice.specs.Places.{row-long, row-of-length}
+use Rattle.slice.specs.Places.{row-long, row-of-length, row-whole}
 use Rattle.pair.specs.Pair.{PairShown}
 
 -- ---- New heads
@@ -31,12 +31,6 @@ pub head-other : (a b : ℕ) (w : List ℕ) (loser winner : Slice) (k : ℕ) →
     → newHead w (head (loser k)) (head (winner k)) ≡ headFrom a b w loser winner k
 unfolding headFrom
 head-other a b w loser winner k e = rw e
-
--- A function's values do not change where the function does not.
-tab-same : (n : ℕ) (f g : ℕ → ℕ) → ((k : ℕ) → f k ≡ g k) → tab n f ≡ tab n g
-unfolding tab
-tab-same zero f g e = refl
-tab-same (suc n) f g e = ap₂ (λ (l : List ℕ) (x : ℕ). l ++ (x ∷ [])) (tab-same n f g e) (e n)
 
 -- These are the new heads: b wins, or a does.
 pub heads-b-wins : (n a b : ℕ) (x y : Slice) → bWins a b x y ≡ true → tab n (headFrom a b (winningRow a b x y) x y) ≡ tab n (newHeads a b x y)
@@ -70,12 +64,6 @@ keeps-own h own other e = rw (eq-eqb (head own) h e)
 pub takes-other : (h : ℕ) (own other : List ℕ) → (head own ≡ h → ⊥) → other ≡ cachedRow h own other
 unfolding cachedRow
 takes-other h own other e = rw (ne-eqb (head own) h e)
-
-module _ {n : ℕ} {s : List ℕ} (shown : SliceShown n s) (k : ℕ) (less : k < n) where
-  -- A row of a checked slice is its symbols written.
-  pub row-whole : part (rowSize n) k s ≡ rowBytes n (rowIn n s k)
-  unfolding rowIn
-  row-whole = shown .rows k less .form
 
 module _ (n a b : ℕ) (own other hs cut : List ℕ) (k : ℕ) where
   pub chosen-named : isNamed a b k ≡ true → cut ≡ chosenRow n a b own other hs cut k

@@ -7,7 +7,7 @@ use Prim.Native.Nat.{ℕ, zero, suc, _+_, _≤_, _<_}
 use native.Mathlib.Omega.{arith}
 use lib.ListN.{getD}
 use lib.Dec.{eqb}
-use Rattle.model.specs.Tests.{count, isIn, head}
+use Rattle.model.specs.Tests.{count, isIn}
 use Rattle.model.specs.Steps.{Record, sliceAnswer, answerOf, answerAt, isUnrelated, isBehind, isAhead, unrelated, orderOf, comparison}
 use Rattle.model.specs.declared.SliceAnswer.{SliceAnswer}
 use Rattle.model.specs.declared.SliceAnswer.the-variants.{Unrelated}
@@ -15,7 +15,7 @@ use Rattle.model.specs.declared.Order.{Order}
 use Rattle.model.specs.declared.Order.the-variants.{Older, Newer, Conflicting}
 use Rattle.model.specs.declared.Compared.{Compared}
 use Rattle.model.specs.declared.Refusal.the-variants.{UnrelatedSlice}
-use Rattle.facts.specs.Numbers.{count-next, count-le, count-none, →any, →none, below-next}
+use Rattle.facts.specs.Numbers.{count-next, count-le, →any, →none, below-next}
 use Rattle.facts.specs.Cases.{cond-true, cond-false}
 use Rattle.slice.specs.Places.{head-first}
 use Rattle.pair.specs.Pair.{pairCompared}

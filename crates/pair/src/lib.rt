@@ -5,7 +5,7 @@ use model::Refusal;
 use model::SliceAnswer;
 ghost use mathlib.Core.Path.{_≡_};
 ghost use mathlib.Core.Bool.{cond};
-ghost use Prim.Native.Nat.{_+_, _*_, _<_, _≤_};
+ghost use Prim.Native.Nat.{_+_, _<_};
 ghost use lib.ListN.{length};
 ghost use Rattle.parts.specs.Handed.{Handed};
 ghost use Rattle.model.specs.Steps.{sliceAnswer, answerAt, orderOf, isBehind, isAhead, winningRow};

@@ -1,14 +1,14 @@
 -- Loops that write parts one behind another, behind a header: the invariant, and how a part that was lent comes back. Assumes nothing.
-use mathlib.Core.Path.{_≡_, refl, sym, ap, _∙_}
+use mathlib.Core.Path.{_≡_, refl, sym, ap, _∙_, ap₂}
 use mathlib.Core.List.{List, _++_, append-assoc, append-nil}
-use Prim.Native.Nat.{ℕ, _+_, _*_, _-_, _≤_}
-use native.Mathlib.Nat.{add-sub-cancel-left, zero-mul, add-zero, suc-mul}
+use Prim.Native.Nat.{ℕ, _+_, _*_, _-_, _≤_, _<_}
+use native.Mathlib.Nat.{add-sub-cancel-left, zero-mul, add-zero, suc-mul, zero-add, add-mul}
 use native.Mathlib.Numerals.{add-one}
 use native.Mathlib.Omega.{arith}
-use lib.ListN.{length, take, drop}
-use lib.Seq.{take-all, drop-drop, paste, take-length}
+use lib.ListN.{length, take, drop, take-append-drop}
+use lib.Seq.{take-all, drop-drop, paste, take-length, length-take-le, drop-at}
 use borrow.Rule.Slice.PartMut.{putMid}
-use Rattle.parts.specs.Parts.{part, join}
+use Rattle.parts.specs.Parts.{part, join, room, length-join, part-join, part-front}
 use Rattle.parts.specs.Written.{written, length-written, take-written, drop-written}
 
 -- The first parts are f's, up to s; header and rest are still those of the list that was lent.
@@ -43,6 +43,43 @@ module _ {h w s : ℕ} {f : ℕ → List ℕ} {old l : List ℕ} (so : Front h w
 
   pub front-end : length old ≡ h + s * w → l ≡ take h old ++ join s f
   front-end e = sym (take-all (h + s * w) l (omega (arith, so .long))) ∙ so .done
+
+  -- Each part below s is the new one, each from s on the old one.
+  pub front-done : h ≤ length old → ((k : ℕ) → k < s → length (f k) ≡ w) → (k : ℕ) → k < s → part w k (drop h l) ≡ f k
+  front-done fits wide k less =
+      let rest : List ℕ = drop (h + s * w) l in
+      let body : length (join s f) ≡ s * w = length-join w s f wide in
+      let whole : l ≡ take h old ++ (join s f ++ rest) =
+      sym (take-append-drop (h + s * w) l)
+      ∙ ap (λ (q : List ℕ). q ++ rest) (so .done)
+      ∙ append-assoc (take h old) (join s f) rest in
+      ap (part w k) (ap (drop h) whole ∙ drop-at (take h old) (join s f ++ rest) h (length-take-le h old fits))
+      ∙ part-front w k (join s f) rest (rw body (room w less))
+      ∙ part-join w s f wide k less
+
+  pub front-rest : (k : ℕ) → s ≤ k → part w k (drop h l) ≡ part w k (drop h old)
+  unfolding part
+  front-rest k over = ap (take w) (from l ∙ ap (drop ((k - s) * w)) (so .rest) ∙ sym (from old))
+    where
+      from : (q : List ℕ) → drop (k * w) (drop h q) ≡ drop ((k - s) * w) (drop (h + s * w) q)
+      from q =
+          let more : s + (k - s) ≡ k = omega arith in
+          let at : k * w ≡ s * w + (k - s) * w = ap (λ (m : ℕ). m * w) (sym more) ∙ add-mul s (k - s) w in
+          let place : h + k * w ≡ h + s * w + (k - s) * w = omega arith in
+          drop-drop (k * w) h q ∙ ap (λ (m : ℕ). drop m q) place ∙ sym (drop-drop ((k - s) * w) (h + s * w) q)
+
+  -- With the parts as long as they should be, they are written.
+  pub front-written : length (join s f) ≡ s * w → l ≡ written h (join s f) old
+  unfolding written
+  front-written wide =
+      sym (take-append-drop (h + s * w) l)
+      ∙ ap₂ _++_ (so .done) (so .rest)
+      ∙ append-assoc (take h old) (join s f) (drop (h + s * w) old)
+      ∙ ap (λ (m : ℕ). take h old ++ (join s f ++ drop (h + m) old)) (sym wide)
+
+-- The first parts, joined, where no header stands before them.
+pub front-joined : {w s n : ℕ} {f : ℕ → List ℕ} {old l : List ℕ} → Front 0 w s f old l → s ≡ n → take (n * w) l ≡ join n f
+front-joined so e = rw (← e) (rw zero-add at (so .done))
 
 -- A part that was lent and comes back as v is written there.
 pub lent-back : (at w : ℕ) (v l : List ℕ) → length v ≡ w → putMid at (at + w - at) l v ≡ written at v l

@@ -9,7 +9,7 @@ use native.Mathlib.Nat.{suc-mul, zero-mul, mul-le-mul-right}
 use native.Mathlib.Decide.{decLt, ℕ-discrete}
 use native.Mathlib.Omega.{arith}
 use lib.ListN.{length, take, drop, length-append, length-take, length-drop, take-append-drop}
-use lib.Seq.{take-append-le, drop-append-le, take-at, drop-at, take-add, take-all, take-take, drop-drop, length-take-le, drop-append-add, take-append-add}
+use lib.Seq.{take-append-le, drop-append-le, take-at, drop-at, take-add, take-all, length-take-le, drop-append-add}
 
 -- Part k ends within the first n parts.
 pub room : (w : ℕ) {k n : ℕ} → k < n → k * w + w ≤ n * w
@@ -29,9 +29,13 @@ module _ {ℓ} {A : Type ℓ} where
   unfoldable pub put : ℕ → ℕ → List A → List A → List A
   put w k v l = take (k * w) l ++ (v ++ drop (k * w + w) l)
 
+  -- What is lent of a list from one place on, w elements of it.
+  pub part-long : (at w : ℕ) (l : List A) → at + w ≤ length l → length (take w (drop at l)) ≡ w
+  part-long at w l fits = simp (length-take, length-drop) (omega arith)
+
   pub length-part : (w k : ℕ) (l : List A) → k * w + w ≤ length l → length (part w k l) ≡ w
   unfolding part
-  length-part w k l h = simp (length-take, length-drop) (omega arith)
+  length-part w k l h = part-long (k * w) w l h
 
   pub join-same : (n : ℕ) (f g : ℕ → List A) → ((k : ℕ) → k < n → f k ≡ g k) → join n f ≡ join n g
   unfolding join
@@ -43,6 +47,9 @@ module _ {ℓ} {A : Type ℓ} where
   length-join w zero f e = sym (zero-mul w)
   length-join w (suc n) f e =
       rw (length-append, suc-mul) (omega (arith, length-join w n f (λ k h. e k (omega arith)), e n (omega arith)))
+
+  pub length-repeated : (n : ℕ) (v : List A) → length (join n (λ k. v)) ≡ n * length v
+  length-repeated n v = length-join (length v) n (λ k. v) (λ k h. refl)
 
   -- A part that lies in the front of a list does not see what stands behind it.
   pub part-front : (w k : ℕ) (x y : List A) → k * w + w ≤ length x → part w k (x ++ y) ≡ part w k x

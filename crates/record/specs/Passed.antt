@@ -18,6 +18,7 @@ use Rattle.laws.specs.Layout.{length-sliceIn, length-rowIn}
 use Rattle.laws.specs.WellFormed.{WellRow, WellSlice, WellRecord, rowFormed→}
 use Rattle.laws.specs.Accepted.{record-accepted→}
 use Rattle.laws.specs.RoundTrip.{row-form, row-formed}
+use Rattle.symbols.specs.Marks.{Below}
 use Rattle.slice.specs.Shown.{RowShown, SliceShown, RecordShown}
 use Rattle.slice.specs.Places.{sizes}
 
@@ -56,7 +57,7 @@ module _ {n : ℕ} {s : List ℕ} (passed : RowsPassed n s) where
       record { few = passed .few; long = passed .long; rows = λ k h. row-shown (length-rowIn n s k (passed .long) h) (row-passed k h) }
 
   -- Its symbols are the bits of a word of 64.
-  pub symbol-low : (k : ℕ) → k < n → (x : ℕ) → In x (rowIn n s k) → x < 64
+  pub symbol-low : (k : ℕ) → k < n → Below 64 (rowIn n s k)
   unfolding rowIn
   symbol-low k h x i = omega (arith, row-passed k h .below x i, sizes n (passed .few) .symbols)
 

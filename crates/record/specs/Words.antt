@@ -4,8 +4,9 @@ use mathlib.Core.Path.{_≡_, refl, sym, ap, _∙_}
 use mathlib.Core.Logic.{inl, inr}
 use mathlib.Core.Bool.{Bool, true, false, cond, _||_}
 use mathlib.Core.List.{List, [], _∷_}
-use Prim.Native.Nat.{ℕ, zero, suc, _*_, _/_, _%_, _^_, _<_}
+use Prim.Native.Nat.{ℕ, zero, suc, _*_, _/_, _%_, _^_, _<_, _+_}
 use native.Mathlib.Nat.{pow-suc, div-div-eq-div-mul, mul-comm, zero-div}
+use native.Mathlib.Numerals.{add-one}
 use native.Mathlib.Omega.{arith}
 use lib.Dec.{eqb, lit<}
 use lib.Bits.{bitOr}
@@ -15,9 +16,9 @@ use Rattle.model.specs.Steps.{Slice}
 use Rattle.model.specs.Bytes.{principalFormed}
 use Rattle.facts.specs.Cases.{agree}
 use Rattle.facts.specs.Numbers.{any→, →any}
-use Rattle.facts.specs.Members.{In, isIn→, →isIn}
+use Rattle.facts.specs.Members.{isIn→, →isIn}
 use Rattle.laws.specs.Formed.{principalFormed→, →principalFormed}
-use Rattle.symbols.specs.Marks.{digit, marks}
+use Rattle.symbols.specs.Marks.{digit, marks, Below}
 use Rattle.symbols.proofs.Digits.{digit-mark, digit-marks, mark-fits}
 
 -- The word with the bit of the head of each row below n set.
@@ -25,9 +26,10 @@ unfoldable pub headMarks : ℕ → Slice → ℕ
 headMarks zero s = 0
 headMarks (suc n) s = bitOr (headMarks n s) (2 ^ head (s n))
 
--- The symbols of a row are bits of a word of 64.
-pub record Low (l : List ℕ) : Type 0 where
-  pub low : (x : ℕ) → In x l → x < 64
+-- One head more, in the code's `k + 1`.
+pub heads-turn : (k : ℕ) (s : Slice) → headMarks (k + 1) s ≡ bitOr (headMarks k s) (2 ^ head (s k))
+unfolding headMarks
+heads-turn k s = rw add-one
 
 -- ---- Their digits, and that they fit
 
@@ -52,7 +54,7 @@ unfolding headMarks
 heads-fit zero s h = lit< tt
 heads-fit (suc n) s h = mark-fits (headMarks n s) (head (s n)) (heads-fit n s (λ k l. h k (omega arith))) (h n (omega arith))
 
-marks-fit : (w : ℕ) (l : List ℕ) → w < 2 ^ 64 → ((x : ℕ) → In x l → x < 64) → marks w l < 2 ^ 64
+marks-fit : (w : ℕ) (l : List ℕ) → w < 2 ^ 64 → Below 64 l → marks w l < 2 ^ 64
 unfolding marks
 marks-fit w [] f h = f
 marks-fit w (x ∷ l) f h = marks-fit (bitOr w (2 ^ x)) l (mark-fits w x f (h x (inl refl))) (λ y i. h y (inr i))
@@ -97,7 +99,7 @@ module _ (n own : ℕ) (s : Slice) where
         λ a. isIn→ x (s own) (sym (same x) ∙ →any n (λ k. eqb (head (s k)) x) (a .0) (a .1) (eq-eqb (head (s (a .0))) x (a .2))),
       )
 
-  pub principal-words : ((k : ℕ) → k < n → head (s k) < 64) → ((x : ℕ) → In x (s own) → x < 64)
+  pub principal-words : ((k : ℕ) → k < n → head (s k) < 64) → Below 64 (s own)
       → eqb (headMarks n s) (marks 0 (s own)) ≡ principalFormed n own s
   principal-words heads symbols =
       agree (eqb (headMarks n s) (marks 0 (s own))) (principalFormed n own s)

@@ -12,9 +12,8 @@ ghost use Rattle.model.specs.Answers.{saidDone};
 ghost use Rattle.model.specs.Bytes.{rowSize, sliceSize, recordSize, headerBytes, rowIn, sliceIn, marked, inRange, rowFormed, sliceFormed, recordFormed};
 ghost use Rattle.model.specs.Calls.{checkRecordSays};
 ghost use Rattle.model.specs.Promises.{Owed};
-ghost use Rattle.symbols.specs.Marks.{marks};
 ghost use Rattle.record.specs.Passed.{RowsPassed};
-ghost use Rattle.record.specs.Words.{Low, headMarks};
+ghost use Rattle.record.specs.Words.{headMarks};
 
 // Every row of a slice.
 fn rows_formed(s: &[u8], n: usize) -> bool
@@ -29,20 +28,6 @@ fn rows_formed(s: &[u8], n: usize) -> bool
         k += 1;
     }
     true
-}
-
-// The symbols of a row as the bits of a word.
-fn symbol_word(l: &[u8]) -> u64
-    requires { ⌜ Low (now l) ⌝ }
-    ensures { λ x. ⌜ x ≡ marks 0 (now (l .entry)) ⌝ }
-{
-    let mut word: u64 = 0;
-    let mut i = 0;
-    while i < l.len() {
-        word |= 1 << l[i];
-        i += 1;
-    }
-    word
 }
 
 // The heads of a slice's rows as the bits of a word.
@@ -67,7 +52,7 @@ pub fn slice_formed(s: &[u8], n: usize, own: usize) -> bool
     if !rows_formed(s, n) {
         return false;
     }
-    head_word(s, n) == symbol_word(slice::row_in(s, n, own))
+    head_word(s, n) == symbols::mark(0, slice::row_in(s, n, own))
 }
 
 // Every slice of a record.

@@ -1,6 +1,6 @@
 -- The values of a function as a row, so that heads can stand in an array: its length, its places, what stands in it, and a row cut down
 -- to it. Assumes nothing.
-use mathlib.Core.Path.{_≡_, refl, _∙_}
+use mathlib.Core.Path.{_≡_, refl, _∙_, ap₂}
 use mathlib.Core.List.{List, [], _∷_, _++_}
 use Prim.Native.Nat.{ℕ, zero, suc, _+_, _<_}
 use native.Mathlib.Numerals.{add-one}
@@ -36,6 +36,12 @@ getD-tab (suc n) f k h =
     by-eq k n
     (λ e. rw e (getD-at (tab n f) (f n) [] 0 n (length-tab n f)))
     (λ e. List·getD-append (tab n f) (f n ∷ []) 0 k (omega (arith, length-tab n f)) ∙ getD-tab n f k (omega arith))
+
+-- A function's values do not change where the function does not.
+pub tab-same : (n : ℕ) (f g : ℕ → ℕ) → ((k : ℕ) → f k ≡ g k) → tab n f ≡ tab n g
+unfolding tab
+tab-same zero f g e = refl
+tab-same (suc n) f g e = ap₂ (λ (l : List ℕ) (x : ℕ). l ++ (x ∷ [])) (tab-same n f g e) (e n)
 
 -- x stands there exactly where f gives it somewhere below n.
 pub isIn-tab : (n : ℕ) (f : ℕ → ℕ) (x : ℕ) → isIn x (tab n f) ≡ any n (λ k. eqb (f k) x)

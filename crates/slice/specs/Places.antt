@@ -1,16 +1,16 @@
 -- Where rows and slices stand: bounds of the sizes for at most eight copies, and what a part of a slice or record reads as.
 -- Assumes nothing.
-use mathlib.Core.Path.{_≡_, refl, sym, ap, _∙_}
+use mathlib.Core.Path.{_≡_, refl}
 use mathlib.Core.List.{List, [], _∷_}
 use Prim.Native.Nat.{ℕ, _+_, _*_, _-_, _≤_, _<_}
 use native.Mathlib.Nat.{mul-le-mul}
 use native.Mathlib.Omega.{arith}
-use lib.ListN.{length, getD, take, drop, length-drop, length-take}
+use lib.ListN.{length, getD, take, drop, length-drop}
 use lib.Seq.{take-all, length-take-le}
 use Rattle.parts.specs.Parts.{part, room, length-part}
 use Rattle.model.specs.Tests.{head}
-use Rattle.model.specs.Bytes.{rowSize, sliceSize, recordSize, symbolsIn, rowIn, sliceIn, recordRows}
-use Rattle.slice.specs.Shown.{RowShown, SliceShown, RecordShown}
+use Rattle.model.specs.Bytes.{rowSize, sliceSize, recordSize, symbolsIn, rowIn, recordRows, rowBytes}
+use Rattle.slice.specs.Shown.{SliceShown, RecordShown}
 
 -- The sizes for at most eight copies.
 pub record Sizes (n : ℕ) : Type 0 where
@@ -45,6 +45,11 @@ module _ {n : ℕ} {s : List ℕ} (shown : SliceShown n s) (k : ℕ) (less : k <
 
   pub row-long : length (part (rowSize n) k s) ≡ rowSize n
   row-long = length-part (rowSize n) k s row-fits
+
+  -- A row of a checked slice is its symbols written.
+  pub row-whole : part (rowSize n) k s ≡ rowBytes n (rowIn n s k)
+  unfolding rowIn
+  row-whole = shown .rows k less .form
 
   -- A row's length byte says how many symbols it has.
   pub row-length : length (rowIn n s k) ≡ getD (part (rowSize n) k s) 0 0

@@ -3,7 +3,7 @@ use model::Compared;
 use model::Done;
 use model::Refusal;
 ghost use mathlib.Core.Path.{_≡_};
-ghost use mathlib.Core.List.{List, [], _∷_};
+ghost use mathlib.Core.List.{[], _∷_};
 ghost use lib.Dec.{eqb};
 ghost use Rattle.model.specs.Answers.{saidDone, done, refuse, answer};
 ghost use Rattle.model.specs.Calls.{updateSays, updateLeaves, meetSays, meetLeaves};

@@ -15,7 +15,6 @@ use Rattle.facts.specs.Numbers.{any→, none→, →pair, →no-pair, below-nex
 use Rattle.copies.specs.declared.Cover.{Cover}
 use Rattle.copies.specs.Copies.{apart, order, apartFrom, coveredBy, coverOf}
 use Rattle.copies.specs.Looked.{near, far}
-use Rattle.superfluous.specs.declared.Masked.{Masked}
 use Rattle.superfluous.specs.declared.Masked.the-variants.{Unrelated, Mask}
 use Rattle.superfluous.specs.Mask.{masked, bitOf}
 use Rattle.laws.specs.Superfluous.{mask-below}

@@ -1,8 +1,7 @@
 // The superfluous copies of a checked table, as a mask.
 use copies::Cover;
 ghost use mathlib.Core.Path.{_≡_};
-ghost use mathlib.Core.Bool.{cond};
-ghost use Prim.Native.Nat.{_^_, _<_};
+ghost use Prim.Native.Nat.{_<_};
 ghost use Rattle.model.specs.Bytes.{tableRows};
 ghost use Rattle.copies.specs.Copies.{TableShown};
 ghost use Rattle.superfluous.specs.Mask.{masked, bitOf};

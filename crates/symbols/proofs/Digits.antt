@@ -3,13 +3,15 @@
 use mathlib.Core.Path.{_≡_, refl, _∙_}
 use mathlib.Core.Bool.{Bool, true, false, cond, _||_}
 use mathlib.Core.List.{List, [], _∷_, _++_}
-use Prim.Native.Nat.{ℕ, zero, suc, _*_, _/_, _%_, _^_, _≤_, _<_, max}
+use Prim.Native.Nat.{ℕ, zero, suc, _+_, _*_, _/_, _%_, _^_, _≤_, _<_, max}
 use native.Mathlib.Nat.{pow-suc, mul-le-mul, mul-div-mul-right, div-eq-of-lt, one-mul}
 use native.Mathlib.Omega.{arith}
+use lib.ListN.{length, getD, drop, drop-of-length-le}
 use lib.Dec.{lit<, eqb, eqb·zero-suc, eqb·suc-zero, eqb·suc-suc}
 use lib.Bits.{bitAnd, bitOr, or-shr, or-step, or-lt, and-mask}
 use lib.Pow.{pow-lt, shl-exact}
 use Rattle.model.specs.Tests.{isIn}
+use Rattle.facts.specs.Turns.{rest}
 use Rattle.symbols.specs.Marks.{digit, marks}
 
 -- ---- Code
@@ -69,3 +71,13 @@ pub marks-append : (w : ℕ) (l m : List ℕ) → marks w (l ++ m) ≡ marks (ma
 unfolding marks
 marks-append w [] m = refl
 marks-append w (x ∷ l) m = marks-append (bitOr w (2 ^ x)) l m
+
+-- The row from place i on, in the code's `i + 1`.
+module _ (w : ℕ) (l : List ℕ) (i : ℕ) where
+  pub mark-next : i < length l → marks w (drop i l) ≡ marks (bitOr w (2 ^ getD l i 0)) (drop (i + 1) l)
+  unfolding marks
+  mark-next h = rw (rest l i h)
+
+  pub mark-end : length l ≤ i → marks w (drop i l) ≡ w
+  unfolding marks
+  mark-end h = rw (drop-of-length-le l h)

@@ -4,10 +4,8 @@ use mathlib.Core.Bool.{Bool, true, false, cond, not, _&&_, _||_, and-false, and-
 use mathlib.Core.List.{List, [], _∷_}
 use Prim.Native.Nat.{ℕ, _+_, _*_, _^_, _<_, _≤_}
 use native.Mathlib.Nat.{zero-div}
-use native.Mathlib.Numerals.{add-one}
 use native.Mathlib.Omega.{arith}
 use lib.ListN.{length, getD, drop, drop-of-length-le}
-use lib.Seq.{drop-cons}
 use lib.Dec.{eqb, ltb}
 use lib.Bits.{bitOr}
 use borrow.Author.Tests.{eq-eqb, ne-eqb, lt-ltb, le-ltb}
@@ -15,6 +13,7 @@ use Rattle.model.specs.Tests.{isIn, every, different}
 use Rattle.model.specs.Bytes.{symbolsFormed}
 use Rattle.facts.specs.Cases.{by-eq}
 use Rattle.facts.specs.Members.{→every}
+use Rattle.facts.specs.Turns.{rest}
 use Rattle.symbols.specs.Marks.{digit}
 use Rattle.symbols.proofs.Digits.{digit-mark}
 
@@ -78,19 +77,16 @@ module _ (n w : ℕ) (l : List ℕ) (i : ℕ) where
   formed-end h = rw (drop-of-length-le l h)
 
   module _ (h : i < length l) where
-    here : drop i l ≡ getD l i 0 ∷ drop (i + 1) l
-    here = rw add-one (drop-cons l i 0 h)
-
     pub formed-great : n * n ≤ getD l i 0 → formedFrom n w (drop i l) ≡ false
     unfolding every unseen
-    formed-great g = rw (here, le-ltb (getD l i 0) (n * n) g)
+    formed-great g = rw (rest l i h, le-ltb (getD l i 0) (n * n) g)
 
     pub formed-twice : digit w (getD l i 0) ≡ 1 → formedFrom n w (drop i l) ≡ false
     unfolding every unseen
-    formed-twice e = rw (here, e) (and-false (every (λ x. ltb x (n * n)) (getD l i 0 ∷ drop (i + 1) l)))
+    formed-twice e = rw (rest l i h, e) (and-false (every (λ x. ltb x (n * n)) (getD l i 0 ∷ drop (i + 1) l)))
 
     pub formed-next : getD l i 0 < n * n → (digit w (getD l i 0) ≡ 1 → ⊥) → formedFrom n w (drop i l) ≡ formedFrom n (bitOr w (2 ^ getD l i 0)) (drop (i + 1) l)
     unfolding every unseen
     formed-next g ne =
         let zero-digit : digit w (getD l i 0) ≡ 0 = omega arith in
-        rw (here, lt-ltb (getD l i 0) (n * n) g, zero-digit)
+        rw (rest l i h, lt-ltb (getD l i 0) (n * n) g, zero-digit)

@@ -7,6 +7,7 @@ ghost use lib.ListN.{length};
 ghost use lib.Dec.{eqb};
 ghost use Rattle.model.specs.Tests.{every};
 ghost use Rattle.model.specs.Bytes.{unused as unusedCell, symbolsFormed, rowFormed};
+ghost use Rattle.symbols.specs.Marks.{Below, marks};
 
 // Symbols are in range and all different. A bit of `seen` stands for each symbol passed.
 pub fn symbols_formed(l: &[u8], n: usize) -> bool
@@ -28,6 +29,20 @@ pub fn symbols_formed(l: &[u8], n: usize) -> bool
         i += 1;
     }
     true
+}
+
+// The word with the bit of each symbol of the row set too.
+pub fn mark(w: u64, l: &[u8]) -> u64
+    requires { ⌜ Below 64 (now l) ⌝ }
+    ensures { λ r. ⌜ r ≡ marks w (now (l .entry)) ⌝ }
+{
+    let mut all = w;
+    let mut i = 0;
+    while i < l.len() {
+        all |= 1 << l[i];
+        i += 1;
+    }
+    all
 }
 
 // Every cell is FF.

@@ -2,7 +2,7 @@
 use mathlib.Core.Path.{_≡_, refl}
 use mathlib.Core.List.{List, []}
 use Prim.Native.Nat.{ℕ, _*_, _<_}
-use Rattle.model.specs.Answers.{done, refused, leave}
+use Rattle.model.specs.Answers.{done, refused}
 use Rattle.model.specs.Bytes.{copiesIn, recordIn, recordSize}
 use Rattle.model.specs.Calls.{lendReasons, lendSays, lendGives, lendPlace}
 use Rattle.laws.specs.Reasons.{accepted-answer, refused-not, leave-accepted, leave-refused}

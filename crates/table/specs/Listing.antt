@@ -1,18 +1,16 @@
 -- What the mask of the superfluous copies says, as the call's last reason and its answer. Assumes nothing.
-use mathlib.Core.Path.{_≡_, refl, sym, ap, _∙_}
+use mathlib.Core.Path.{_≡_, refl, _∙_}
 use mathlib.Core.Bool.{Bool, true, false, cond}
 use mathlib.Core.List.{List, [], _∷_}
 use Prim.Native.Nat.{ℕ}
 use native.Mathlib.Omega.{arith}
 use lib.Count.{ones}
 use Rattle.model.specs.Tests.{anyPair}
-use Rattle.model.specs.Steps.{maskOf, isSuperfluous}
-use Rattle.model.specs.Answers.{Said, refused, listed, refuse, answer}
+use Rattle.model.specs.Answers.{refused, listed, refuse, answer}
 use Rattle.model.specs.Bytes.{copiesIn, tableRows}
 use Rattle.model.specs.Calls.{unrelatedCopies, copyOrder, superfluousMask}
 use Rattle.facts.specs.Cases.{cond-true, cond-false}
 use Rattle.copies.specs.Copies.{apart, order}
-use Rattle.superfluous.specs.declared.Masked.{Masked}
 use Rattle.superfluous.specs.declared.Masked.the-variants.{Unrelated, Mask}
 use Rattle.superfluous.specs.Mask.{masked}
 

@@ -1,13 +1,12 @@
--- What is written into a part of a part is written into the whole; and so the updated table is the old one with one row written into
--- the record where it stands. Assumes nothing.
-use mathlib.Core.Path.{_≡_, sym, ap, ap₂, _∙_}
-use mathlib.Core.List.{List, _++_, append-assoc}
+-- The updated table is the old one with one row written into the record where it stands: what is written into a part of a part is
+-- written into the whole. Assumes nothing.
+use mathlib.Core.Path.{_≡_, sym, ap, _∙_}
+use mathlib.Core.List.{List, _++_}
 use Prim.Native.Nat.{ℕ, _+_, _*_, _≤_, _<_}
 use native.Mathlib.Omega.{arith}
-use lib.ListN.{length, take, drop, length-drop, take-append-drop}
-use lib.Seq.{take-add, take-append-le, drop-append-le, drop-drop, length-take-le}
-use Rattle.parts.specs.Parts.{room, part, put}
-use Rattle.parts.specs.Written.{written, length-written, written-put}
+use lib.ListN.{length, take, drop, length-drop}
+use Rattle.parts.specs.Parts.{room, put}
+use Rattle.parts.specs.Written.{written, length-written, written-behind, written-within}
 use Rattle.model.specs.Steps.{updatedRow, updatedRecord, updatedTable}
 use Rattle.model.specs.Bytes.{headerSize, rowSize, sliceSize, recordSize, rowBytes, recordBytes, tableBytes, ownIn, rowIn, sliceIn, recordRows, recordIn, tableRows}
 use Rattle.row.proofs.Rows.{row-take}
@@ -18,39 +17,6 @@ use Rattle.laws.specs.UpdateKept.{updated-row}
 use Rattle.laws.specs.Leaves.{update-leaves}
 use Rattle.laws.specs.InPlace.{update-put, update-record-put, update-slice-put}
 use Rattle.updating.specs.Asked.{ownPlace, own-slice, own-fits}
-
--- ---- Places within places
-
--- Behind the first h.
-written-behind : (h at : ℕ) (v l : List ℕ) → written (h + at) v l ≡ take h l ++ written at v (drop h l)
-unfolding written
-written-behind h at v l =
-    let place : h + at + length v ≡ h + (at + length v) = omega arith in
-    rw (take-add h at l, place, ← drop-drop (at + length v) h l)
-    (append-assoc (take h l) (take at (drop h l)) (v ++ drop (at + length v) (drop h l)))
-
--- In the front of a list.
-written-front : (at : ℕ) (v x y : List ℕ) → at + length v ≤ length x → written at v (x ++ y) ≡ written at v x ++ y
-unfolding written
-written-front at v x y fits =
-    let starts : at ≤ length x = omega arith in
-    rw (take-append-le at x y starts, drop-append-le (at + length v) x y fits)
-    (sym (append-assoc (take at x) (v ++ drop (at + length v) x) y ∙ ap (λ (q : List ℕ). take at x ++ q) (append-assoc v (drop (at + length v) x) y)))
-
--- In part k, at the place of part j of it.
-module _ (w k u j : ℕ) (v l : List ℕ) (fits : k * w + w ≤ length l) (within : j * u + u ≤ w) (wide : length v ≡ u) where
-  written-within : written (k * w + j * u) v l ≡ put w k (put u j v (part w k l)) l
-  unfolding part put
-  written-within =
-      let d : List ℕ = drop (k * w) l in
-      let whole : length (take w d) ≡ w = length-take-le w d (rw length-drop (omega arith)) in
-      let room : j * u + length v ≤ length (take w d) = omega arith in
-      let inner : written (j * u) v (take w d) ≡ put u j v (take w d) = written-put u j v (take w d) wide in
-      written-behind (k * w) (j * u) v l
-      ∙ ap (λ (q : List ℕ). take (k * w) l ++ q)
-      (ap (written (j * u) v) (sym (take-append-drop w d))
-      ∙ written-front (j * u) v (take w d) (drop w d) room
-      ∙ ap₂ _++_ inner (drop-drop w (k * w) l))
 
 -- ---- One row of one record
 

@@ -3,18 +3,18 @@
 use mathlib.Core.Path.{_≡_, refl, sym, ap, ap₂, _∙_}
 use mathlib.Core.List.{List, [], _∷_, _++_, append-assoc}
 use Prim.Native.Nat.{ℕ, suc, _+_, _*_, _-_, _≤_, _<_}
-use native.Mathlib.Nat.{add-sub-cancel-left, zero-add}
+use native.Mathlib.Nat.{add-sub-cancel-left}
 use native.Mathlib.Numerals.{add-one}
 use native.Mathlib.Omega.{arith}
-use lib.ListN.{length, getD, take, drop, set, length-drop}
-use lib.Seq.{take-suc-set, drop-set-lt, take-take, length-take-le}
-use Rattle.parts.specs.Parts.{part, room, join, length-join}
+use lib.ListN.{length, getD, take, drop, set}
+use lib.Seq.{take-suc-set, drop-set-lt, take-take}
+use Rattle.parts.specs.Parts.{part, room, join}
 use Rattle.parts.specs.Written.{written}
 use Rattle.parts.proofs.Front.{Front, front-next, front-end}
 use Rattle.model.specs.Bytes.{rowSize, sliceSize, recordSize, headerBytes}
 use Rattle.model.specs.Calls.{most, rowPassed, recordPassed}
 use Rattle.model.specs.declared.Rows.{Rows}
-use Rattle.laws.specs.Given.{InRoom}
+use Rattle.laws.specs.Given.{InRoom, passed-long, slices-long}
 use Rattle.slice.specs.Places.{sizes}
 use Rattle.writing.specs.Passing.{passing}
 
@@ -27,10 +27,6 @@ written-cons at x v l h =
     let place : at + 1 + length v ≡ at + suc (length v) = omega arith in
     rw (front, rest, place) (append-assoc (take at l) (x ∷ []) (v ++ drop (at + suc (length v)) l))
 
--- The first parts, joined.
-pub front-done : (w k n : ℕ) (f : ℕ → List ℕ) (old l : List ℕ) → Front 0 w k f old l → k ≡ n → take (n * w) l ≡ join n f
-front-done w k n f old l so e = rw (← e) (rw zero-add at (so .done))
-
 -- The first N cells of row k's room, as code takes them.
 abbrev pub cellsTaken : Rows → ℕ → ℕ → List ℕ
 cellsTaken x p k = take ((p * 8 + k) * 8 + x .n - (p * 8 + k) * 8) (drop ((p * 8 + k) * 8) (x .cells))
@@ -40,11 +36,6 @@ module _ (x : Rows) (fits : InRoom x) (few : x .n ≤ 8) (p : ℕ) (lp : p < x .
     row-bytes : rowPassed x p k ≡ getD (x .lengths) (p * 8 + k) 0 ∷ cellsTaken x p k
     unfolding rowPassed part
     row-bytes = rw (add-sub-cancel-left ((p * 8 + k) * 8) (x .n), take-take (x .n) most (drop ((p * most + k) * most) (x .cells)) few)
-
-    row-wide : length (rowPassed x p k) ≡ rowSize (x .n)
-    row-wide =
-        let long : x .n ≤ length (drop ((p * 8 + k) * 8) (x .cells)) = rw length-drop (omega (arith, fits .cells)) in
-        rw (row-bytes, add-sub-cancel-left ((p * 8 + k) * 8) (x .n)) (omega (arith, length-take-le (x .n) (drop ((p * 8 + k) * 8) (x .cells)) long))
 
     -- One row more of the slice.
     pub row-next : {old l : List ℕ} → Front 0 (rowSize (x .n)) k (rowPassed x p) old l → length old ≡ 72 → (after : List ℕ)
@@ -56,12 +47,9 @@ module _ (x : Rows) (fits : InRoom x) (few : x .n ≤ 8) (p : ℕ) (lp : p < x .
         front-next so (k * (x .n + 1)) (getD (x .lengths) (p * 8 + k) 0 ∷ cellsTaken x p k) after
         (e ∙ written-cons (k * (x .n + 1)) (getD (x .lengths) (p * 8 + k) 0) (cellsTaken x p k) l (omega (arith, so .long)))
         (omega arith)
-        (ap length (sym row-bytes) ∙ row-wide)
+        (ap length (sym row-bytes) ∙ passed-long x fits few p k lp lk)
         (omega arith)
         (sym row-bytes)
-
-  pub slice-wide : length (join (x .n) (rowPassed x p)) ≡ sliceSize (x .n)
-  slice-wide = length-join (rowSize (x .n)) (x .n) (rowPassed x p) row-wide
 
   -- One slice more of the record.
   pub slice-next : {old l : List ℕ} → Front 4 (sliceSize (x .n)) p (λ q. join (x .n) (rowPassed x q)) old l → length old ≡ recordSize (x .n)
@@ -69,7 +57,7 @@ module _ (x : Rows) (fits : InRoom x) (few : x .n ≤ 8) (p : ℕ) (lp : p < x .
       → Front 4 (sliceSize (x .n)) (p + 1) (λ q. join (x .n) (rowPassed x q)) old after
   slice-next so long v after same e =
       let ends : p * sliceSize (x .n) + sliceSize (x .n) ≤ x .n * sliceSize (x .n) = room (sliceSize (x .n)) lp in
-      front-next so (4 + p * sliceSize (x .n)) v after e refl (ap length same ∙ slice-wide) (omega arith) same
+      front-next so (4 + p * sliceSize (x .n)) v after e refl (ap length same ∙ slices-long x fits few p lp) (omega arith) same
 
 -- The own number is no part of a row.
 pub own-aside : (n own : ℕ) (lengths cells : List ℕ) (p : ℕ)

@@ -1,17 +1,11 @@
 -- `copies::against_one` meets its contract: at each return the comparison says what copy j does to copy i. Assumes nothing.
 use borrow.Author.Needs.{needs}
 use borrow.Author.Tests.{eq-eqb, ne-eqb}
-use mathlib.Core.Path.{_≡_, refl, sym, ap, _∙_}
-use mathlib.Core.Bool.{Bool, true, false}
-use mathlib.Core.List.{List}
-use Prim.Native.Nat.{ℕ}
+use mathlib.Core.Path.{refl, sym, ap, _∙_}
 use denote.Ref.{now}
-use Rattle.model.specs.Steps.{Table, unrelated, comparison, isCovered}
+use Rattle.model.specs.Steps.{Table, isCovered}
 use Rattle.model.specs.Bytes.{tableRows}
-use Rattle.model.specs.declared.Order.{Order}
-use Rattle.model.specs.declared.Compared.{Compared}
-use Rattle.model.specs.declared.Refusal.{Refusal}
-use Rattle.pair.specs.Pair.{pairCompared, compared-as, compared-refused}
+use Rattle.pair.specs.Pair.{compared-as, compared-refused}
 use Rattle.copies.specs.Copies.{apart, order}
 use Rattle.copies.specs.Looked.{cover-is}
 use Rattle.copies.proofs.against_one.Statement.{statement}

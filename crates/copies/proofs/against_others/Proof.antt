@@ -1,7 +1,5 @@
 -- `copies::against_others` meets its contract. The invariant: the first j copies are looked at. Assumes nothing.
 use borrow.Author.Needs.{needs}
-use native.Mathlib.Omega.{arith}
-use mathlib.Core.Path.{sym, _∙_}
 use Prim.Native.Nat.{_-_}
 use Rattle.model.specs.Bytes.{tableRows}
 use Rattle.copies.specs.Looked.{Looked, looked-start, looked-next, looked-apart, looked-done}

@@ -1,5 +1,4 @@
 -- `copies::compare_copies` meets its contract: the two records are compared where they stand. Assumes nothing.
-use borrow.Author.Needs.{needs}
 use mathlib.Core.Path.{ap₂, _∙_}
 use mathlib.Core.List.{List}
 use Prim.Native.Nat.{ℕ}

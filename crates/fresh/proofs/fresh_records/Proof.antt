@@ -1,18 +1,17 @@
 -- `fresh::fresh_records` meets its contract: after c turns c records are fresh. Assumes nothing.
 use borrow.Author.Needs.{needs}
 use native.Mathlib.Omega.{arith}
-use mathlib.Core.Path.{_≡_, refl, sym, ap, _∙_}
-use mathlib.Core.List.{_++_}
-use Prim.Native.Nat.{ℕ, _+_, _*_, _-_, _≤_, _<_}
+use mathlib.Core.Path.{_≡_, refl, ap, _∙_}
+use Prim.Native.Nat.{ℕ, _+_, _*_, _-_, _≤_}
 use native.Mathlib.Nat.{add-sub-cancel-left}
 use lib.ListN.{length}
 use denote.Ref.{now}
-use Rattle.parts.specs.Parts.{room}
+use Rattle.parts.specs.Parts.{room, part-long}
 use Rattle.parts.proofs.Front.{Front, front-start, front-next, front-end, lent-back}
 use Rattle.model.specs.Steps.{freshRows}
 use Rattle.model.specs.Bytes.{recordSize, recordBytes, tableBytes}
 use Rattle.slice.specs.Places.{sizes}
-use Rattle.fresh.proofs.Repeated.{length-fresh-record, part-long}
+use Rattle.fresh.proofs.Repeated.{length-fresh-record}
 use Rattle.fresh.proofs.fresh_records.Statement.{statement}
 use Rattle.fresh.proofs.fresh_records.Tie as tie
 use Rattle.fresh.proofs.fresh_records.Reads as reads

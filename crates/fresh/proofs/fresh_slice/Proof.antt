@@ -1,10 +1,9 @@
 -- `fresh::fresh_slice` meets its contract: N fresh rows, one behind another. Assumes nothing.
 use borrow.Author.Needs.{needs}
 use native.Mathlib.Omega.{arith}
-use mathlib.Core.Path.{_≡_, refl, sym, _∙_}
-use Prim.Native.Nat.{ℕ, _+_, _*_, _≤_}
-use lib.ListN.{length, take, replicate}
-use Rattle.model.specs.Bytes.{rowSize}
+use mathlib.Core.Path.{sym}
+use Prim.Native.Nat.{_+_}
+use lib.ListN.{take, replicate}
 use Rattle.slice.specs.Places.{sizes}
 use Rattle.fresh.proofs.Repeated.{freshRow, fresh-row-front, fresh-row-wide, fresh-slice-front}
 use Rattle.fresh.proofs.fresh_slice.Statement.{statement}

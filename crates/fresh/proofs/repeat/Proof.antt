@@ -1,13 +1,12 @@
 -- `fresh::repeat` meets its contract: after k turns k parts stand behind the header. Assumes nothing.
 use borrow.Author.Needs.{needs}
 use native.Mathlib.Omega.{arith}
-use mathlib.Core.Path.{_≡_, refl, sym, _∙_}
-use Prim.Native.Nat.{_+_, _*_, _-_, _≤_, _<_}
+use mathlib.Core.Path.{_≡_, refl}
+use Prim.Native.Nat.{_+_, _*_, _-_, _≤_}
 use lib.ListN.{length}
 use denote.Ref.{now}
-use Rattle.parts.specs.Parts.{room}
-use Rattle.parts.proofs.Front.{Front, front-start, front-next}
-use Rattle.fresh.proofs.Repeated.{front-written, length-repeated}
+use Rattle.parts.specs.Parts.{room, length-repeated}
+use Rattle.parts.proofs.Front.{Front, front-start, front-next, front-written}
 use Rattle.fresh.proofs.repeat.Statement.{statement}
 use Rattle.fresh.proofs.repeat.Tie as tie
 use Rattle.fresh.proofs.repeat.Reads as reads

@@ -4,7 +4,7 @@ use mathlib.Core.Path.{sym, ap, _∙_}
 use denote.Ref.{now}
 use Rattle.model.specs.Answers.{saidCompared}
 use Rattle.model.specs.Calls.{pairReasons, compareRecordsSays, meetRecordsSays}
-use Rattle.table.specs.Chain.{refused-same, ordered-done}
+use Rattle.laws.specs.Reasons.{refused-same, ordered-done}
 use Rattle.loose.proofs.refusal.Statement.{statement}
 use Rattle.loose.proofs.refusal.Tie as tie
 

@@ -4,8 +4,8 @@ use borrow.Author.Needs.{needs}
 use mathlib.Core.Path.{sym, ap, _∙_}
 use native.Mathlib.Omega.{arith}
 use Rattle.model.specs.Bytes.{rowBytes}
-use Rattle.slice.specs.Places.{row-fits}
-use Rattle.meeting_slice.specs.NewRows.{row-whole, keeps-own, takes-other}
+use Rattle.slice.specs.Places.{row-fits, row-whole}
+use Rattle.meeting_slice.specs.NewRows.{keeps-own, takes-other}
 use Rattle.meeting_slice.proofs.cached_row.Statement.{statement}
 use Rattle.meeting_slice.proofs.cached_row.Tie as tie
 

@@ -4,7 +4,7 @@ use native.Mathlib.Omega.{arith}
 use Prim.Native.Nat.{_-_}
 use Rattle.model.specs.Bytes.{rowIn}
 use Rattle.meeting_slice.specs.NewRows.{headFrom}
-use Rattle.meeting_slice.proofs.Filled.{Headed, headed-start, headed-next, headed-end}
+use Rattle.row.proofs.Heads.{Headed, headed-start, headed-next, headed-end}
 use Rattle.meeting_slice.proofs.heads_from.Statement.{statement}
 use Rattle.meeting_slice.proofs.heads_from.Tie as tie
 

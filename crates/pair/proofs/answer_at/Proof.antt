@@ -1,6 +1,4 @@
 -- `pair::answer_at` meets its contract: the principal rows are read where they stand. Assumes nothing.
-use borrow.Author.Needs.{needs}
-use native.Mathlib.Omega.{arith}
 use mathlib.Core.Path.{ap₂, _∙_}
 use Rattle.model.specs.Steps.{sliceAnswer, answerAt}
 use Rattle.slice.specs.Places.{row-of-length}

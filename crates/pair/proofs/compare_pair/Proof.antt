@@ -3,7 +3,6 @@ use borrow.Author.Needs.{needs}
 use native.Mathlib.Omega.{arith}
 use mathlib.Core.Path.{sym, _∙_}
 use Prim.Native.Nat.{_-_}
-use denote.Ref.{now}
 use Rattle.model.specs.Steps.{isBehind, isAhead}
 use Rattle.model.specs.Bytes.{recordRows}
 use Rattle.pair.specs.Counted.{Counted, counted-start, counted-next, counted-unrelated, counted-done, counts-fit, one-at-most}

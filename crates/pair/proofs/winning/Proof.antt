@@ -1,7 +1,6 @@
 -- `pair::winning` meets its contract: the row is handed back from the record of the copy that wins. Assumes nothing.
 use borrow.Author.Needs.{needs}
-use mathlib.Core.Path.{_≡_, sym, _∙_}
-use mathlib.Core.Bool.{true, false}
+use mathlib.Core.Path.{sym, _∙_}
 use Rattle.model.specs.Steps.{winningRow}
 use Rattle.pair.proofs.winning.Statement.{statement}
 use Rattle.pair.proofs.winning.Tie as tie

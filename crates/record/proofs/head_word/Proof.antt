@@ -8,8 +8,7 @@ use denote.Ref.{now}
 use Rattle.model.specs.Bytes.{rowIn}
 use Rattle.symbols.proofs.Digits.{make-bit, mark-fits}
 use Rattle.record.specs.Passed.{rows-shown, head-low}
-use Rattle.record.specs.Words.{headMarks}
-use Rattle.record.proofs.Loops.{heads-turn}
+use Rattle.record.specs.Words.{headMarks, heads-turn}
 use Rattle.record.proofs.head_word.Statement.{statement}
 use Rattle.record.proofs.head_word.Tie as tie
 

@@ -8,9 +8,8 @@ use denote.Ref.{now}
 use Rattle.parts.specs.Parts.{part, room}
 use Rattle.model.specs.Tests.{all}
 use Rattle.model.specs.Bytes.{rowSize, rowFormed}
-use Rattle.facts.specs.Numbers.{→fail}
+use Rattle.facts.specs.Numbers.{→fail, all-start, all-turn, all-end}
 use Rattle.laws.specs.Layout.{length-rowIn}
-use Rattle.record.proofs.Loops.{all-start, all-turn, all-end}
 use Rattle.record.proofs.rows_formed.Statement.{statement}
 use Rattle.record.proofs.rows_formed.Tie as tie
 

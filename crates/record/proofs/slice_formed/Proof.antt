@@ -26,13 +26,13 @@ row-in-requires c κs =
     let s = f .before .before in
     (rows-shown (rows-passed (f .rows-formed .result) (s .pre .0) (s .pre .1) (f .rows-formed .ensures) (e .if1 .left)), s .pre .2)
 
-symbol-word-requires : tie.Need-symbol-word-requires
-symbol-word-requires c κs =
+mark-requires : tie.Need-mark-requires
+mark-requires c κs =
     let e = c .before .before in
     let f = e .before in
     let s = f .before .before in
     let p = rows-passed (f .rows-formed .result) (s .pre .0) (s .pre .1) (f .rows-formed .ensures) (e .if1 .left) in
-    rw (c .row-in .ensures .bytes) record { low = symbol-low p (s .args .own) (s .pre .2) }
+    rw (c .row-in .ensures .bytes) (symbol-low p (s .args .own) (s .pre .2))
 
 returns-2 : tie.Need-returns-2
 returns-2 c =
@@ -42,7 +42,7 @@ returns-2 c =
     let f = e .before in
     let s = f .before .before in
     let p = rows-passed (f .rows-formed .result) (s .pre .0) (s .pre .1) (f .rows-formed .ensures) (e .if1 .left) in
-    rw (h .head-word .ensures, c .symbol-word .ensures, i .row-in .ensures .bytes) (slice-decided _ _ _ p (s .pre .2))
+    rw (h .head-word .ensures, c .mark .ensures, i .row-in .ensures .bytes) (slice-decided _ _ _ p (s .pre .2))
 
 pub slice-formed-spec : {M : Type 1} → statement M
 slice-formed-spec =
@@ -52,5 +52,5 @@ slice-formed-spec =
     returns
     head-word-requires
     row-in-requires
-    symbol-word-requires
+    mark-requires
     returns-2)

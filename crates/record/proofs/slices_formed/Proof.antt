@@ -7,9 +7,8 @@ use Prim.Native.Nat.{_≤_, _-_}
 use denote.Ref.{now}
 use Rattle.model.specs.Tests.{all}
 use Rattle.model.specs.Bytes.{sliceIn, sliceFormed}
-use Rattle.facts.specs.Numbers.{→fail}
+use Rattle.facts.specs.Numbers.{→fail, all-start, all-turn, all-end}
 use Rattle.laws.specs.Layout.{length-sliceIn}
-use Rattle.record.proofs.Loops.{all-start, all-turn, all-end}
 use Rattle.record.proofs.slices_formed.Statement.{statement}
 use Rattle.record.proofs.slices_formed.Tie as tie
 

@@ -1,7 +1,7 @@
 -- `write_row`: the length, then the symbols, then FF. Assumes nothing.
 use mathlib.Core.Path.{_∙_}
 use native.Mathlib.Omega.{arith}
-use lib.ListN.{length, length-set}
+use lib.ListN.{length-set}
 use denote.Ref.{now}
 use borrow.Author.Needs.{needs}
 use Rattle.row.proofs.Rows.{row-written}

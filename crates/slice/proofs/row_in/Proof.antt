@@ -1,8 +1,6 @@
 -- `slice::row_in` meets its contract: row k is part k of the slice, and its symbols stand behind its length byte. Assumes nothing.
-use borrow.Author.Needs.{needs}
 use native.Mathlib.Omega.{arith}
 use mathlib.Core.Path.{ap, _∙_}
-use denote.Ref.{now}
 use Rattle.model.specs.Bytes.{rowIn, symbolsIn}
 use Rattle.slice.specs.Places.{row-fits, row-long}
 use Rattle.slice.proofs.row_in.Statement.{statement}

@@ -2,7 +2,7 @@
 use borrow.Author.Tests.{eq-eqb, ne-eqb}
 use mathlib.Core.Path.{sym, _∙_}
 use Rattle.model.specs.Answers.{done}
-use Rattle.table.specs.Chain.{answer-now, answer-later, answer-own}
+use Rattle.laws.specs.Reasons.{answer-now, answer-later, answer-own}
 use Rattle.steps.proofs.twice.Statement.{statement}
 use Rattle.steps.proofs.twice.Tie as tie
 

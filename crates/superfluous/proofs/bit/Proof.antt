@@ -2,8 +2,8 @@
 use borrow.Author.Needs.{needs}
 use native.Mathlib.Omega.{arith}
 use native.Mathlib.Nat.{one-mul}
-use mathlib.Core.Path.{_≡_, _∙_}
-use Prim.Native.Nat.{_^_, _<_, _+_, _≤_}
+use mathlib.Core.Path.{_∙_}
+use Prim.Native.Nat.{_^_, _+_, _≤_}
 use lib.Pow.{shl-exact}
 use Rattle.superfluous.proofs.bit.Statement.{statement}
 use Rattle.superfluous.proofs.bit.Tie as tie

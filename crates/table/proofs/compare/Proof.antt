@@ -4,8 +4,8 @@ use borrow.Author.Needs.{needs}
 use mathlib.Core.Path.{refl, sym, ap, _∙_}
 use Rattle.model.specs.Answers.{saidDone}
 use Rattle.model.specs.Calls.{tableReasons, checkSays, compareReasons, compareSays}
+use Rattle.laws.specs.Reasons.{answer-front, answer-behind}
 use Rattle.table.specs.Checked.{check-passed}
-use Rattle.table.specs.Chain.{answer-front, answer-behind}
 use Rattle.table.proofs.compare.Statement.{statement}
 use Rattle.table.proofs.compare.Tie as tie
 

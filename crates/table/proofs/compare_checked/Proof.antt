@@ -1,5 +1,4 @@
 -- `table::compare_checked` meets its contract: 5 for either number, then the comparison of the two records. Assumes nothing.
-use borrow.Author.Needs.{needs}
 use borrow.Author.Tests.{le-leb, lt-leb}
 use native.Mathlib.Omega.{arith}
 use mathlib.Core.Path.{sym, ap, _∙_}

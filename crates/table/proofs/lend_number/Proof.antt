@@ -6,8 +6,8 @@ use mathlib.Core.Path.{refl, sym, ap, _∙_}
 use Rattle.model.specs.Answers.{saidDone, done}
 use Rattle.model.specs.Bytes.{copiesIn}
 use Rattle.model.specs.Calls.{tableReasons, checkSays, lendReasons, lendSays}
+use Rattle.laws.specs.Reasons.{answer-front, answer-behind, answer-now, answer-later, answer-own}
 use Rattle.table.specs.Checked.{check-passed, well-long}
-use Rattle.table.specs.Chain.{answer-front, answer-behind, answer-now, answer-later, answer-own}
 use Rattle.table.proofs.lend_number.Statement.{statement}
 use Rattle.table.proofs.lend_number.Tie as tie
 

@@ -1,12 +1,11 @@
 -- `table::list_checked` meets its contract: the mask, and the machine's count of its ones. Assumes nothing.
 use borrow.Author.Needs.{needs}
 use native.Mathlib.Omega.{arith}
-use mathlib.Core.Path.{sym, ap, _∙_}
+use mathlib.Core.Path.{sym, _∙_}
 use Prim.Native.Nat.{_<_, _^_}
 use denote.Ref.{now}
 use lib.Count.{ones-le}
-use Rattle.model.specs.Bytes.{copiesIn, tableRows}
-use Rattle.model.specs.Calls.{superfluousMask}
+use Rattle.model.specs.Bytes.{copiesIn}
 use Rattle.table.specs.Checked.{table-shown, well-long}
 use Rattle.table.specs.Listing.{listing-refused, listing-mask}
 use Rattle.table.proofs.list_checked.Statement.{statement}

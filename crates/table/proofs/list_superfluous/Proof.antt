@@ -4,8 +4,8 @@ use borrow.Author.Needs.{needs}
 use mathlib.Core.Path.{refl, sym, ap, _∙_}
 use Rattle.model.specs.Answers.{saidDone}
 use Rattle.model.specs.Calls.{tableReasons, checkSays, superfluousReasons, superfluousSays}
+use Rattle.laws.specs.Reasons.{answer-front, answer-behind}
 use Rattle.table.specs.Checked.{check-passed}
-use Rattle.table.specs.Chain.{answer-front, answer-behind}
 use Rattle.table.proofs.list_superfluous.Statement.{statement}
 use Rattle.table.proofs.list_superfluous.Tie as tie
 

@@ -8,9 +8,8 @@ use Prim.Native.Nat.{_≤_, _-_}
 use denote.Ref.{now}
 use Rattle.model.specs.Tests.{all}
 use Rattle.model.specs.Bytes.{tableFormed}
-use Rattle.facts.specs.Numbers.{→fail}
+use Rattle.facts.specs.Numbers.{→fail, all-start, all-turn, all-end}
 use Rattle.laws.specs.Layout.{length-recordIn}
-use Rattle.record.proofs.Loops.{all-start, all-turn, all-end}
 use Rattle.table.specs.Checked.{copyFormed, other-number, copy-misformed, copy-formed}
 use Rattle.table.proofs.records_formed.Statement.{statement}
 use Rattle.table.proofs.records_formed.Tie as tie

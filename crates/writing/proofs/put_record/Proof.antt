@@ -10,8 +10,9 @@ use Rattle.parts.proofs.Front.{Front, front-start}
 use Rattle.model.specs.Bytes.{sliceSize, recordSize}
 use Rattle.model.specs.Calls.{rowPassed}
 use Rattle.slice.specs.Places.{sizes}
+use Rattle.laws.specs.Given.{slices-long}
 use Rattle.writing.specs.Passing.{passing}
-use Rattle.writing.proofs.Passed.{slice-wide, slice-next, own-aside, record-end}
+use Rattle.writing.proofs.Passed.{slice-next, own-aside, record-end}
 use Rattle.writing.proofs.put_record.Statement.{statement}
 use Rattle.writing.proofs.put_record.Tie as tie
 
@@ -71,7 +72,7 @@ slice-aggregate-copy c =
     let a = s .args in
     let x = passing (a .n) (a .own) (now (a .lengths)) (now (a .cells)) in
     let w = c .before .before .slice-passed .ensures ∙ own-aside (a .n) (a .own) (now (a .lengths)) (now (a .cells)) (t .before .loop .p) in
-    sym (ap length w ∙ slice-wide x (s .pre .0) (s .pre .1) (t .before .loop .p) (t .loop-test .taken))
+    sym (ap length w ∙ slices-long x (s .pre .0) (s .pre .1) (t .before .loop .p) (t .loop-test .taken))
 
 copy-requires : tie.Need-copy-requires Inv-loop μ-loop
 copy-requires c κs =
@@ -81,7 +82,7 @@ copy-requires c κs =
     let x = passing (a .n) (a .own) (now (a .lengths)) (now (a .cells)) in
     let w = c .before .before .slice-passed .ensures ∙ own-aside (a .n) (a .own) (now (a .lengths)) (now (a .cells)) (t .before .loop .p) in
     let ends = room (sliceSize (a .n)) (t .loop-test .taken) in
-    omega (arith, ap length w, slice-wide x (s .pre .0) (s .pre .1) (t .before .loop .p) (t .loop-test .taken), t .before .loop .inv .1, t .before .loop .inv .2 .long)
+    omega (arith, ap length w, slices-long x (s .pre .0) (s .pre .1) (t .before .loop .p) (t .loop-test .taken), t .before .loop .inv .1, t .before .loop .inv .2 .long)
 
 add-p : tie.Need-add-p Inv-loop μ-loop
 add-p c = search needs

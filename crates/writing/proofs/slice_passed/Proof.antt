@@ -6,12 +6,12 @@ use native.Mathlib.Omega.{arith}
 use lib.ListN.{length, length-set, length-take}
 use denote.Ref.{now}
 use Rattle.parts.specs.Parts.{room}
-use Rattle.parts.proofs.Front.{Front, front-start}
+use Rattle.parts.proofs.Front.{Front, front-start, front-joined}
 use Rattle.model.specs.Bytes.{rowSize}
 use Rattle.model.specs.Calls.{rowPassed}
 use Rattle.slice.specs.Places.{sizes}
 use Rattle.writing.specs.Passing.{passing}
-use Rattle.writing.proofs.Passed.{row-next, front-done}
+use Rattle.writing.proofs.Passed.{row-next}
 use Rattle.writing.proofs.slice_passed.Statement.{statement}
 use Rattle.writing.proofs.slice_passed.Tie as tie
 
@@ -145,7 +145,7 @@ loop-again c =
     )
 
 returns : tie.Need-returns Inv-loop μ-loop
-returns c = let l = c .before .loop in front-done _ _ _ _ _ _ (l .inv .2) (omega arith)
+returns c = let l = c .before .loop in front-joined (l .inv .2) (omega arith)
 
 pub slice-passed-spec : {M : Type 1} → statement M
 slice-passed-spec =

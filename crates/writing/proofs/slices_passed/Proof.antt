@@ -11,11 +11,11 @@ use Rattle.parts.specs.Parts.{join}
 use Rattle.model.specs.Tests.{all}
 use Rattle.model.specs.Bytes.{sliceFormed}
 use Rattle.model.specs.Calls.{rowPassed}
-use Rattle.facts.specs.Numbers.{→fail}
+use Rattle.facts.specs.Numbers.{→fail, all-start, all-turn, all-end}
 use Rattle.slice.specs.Places.{sizes}
-use Rattle.record.proofs.Loops.{all-start, all-turn, all-end}
+use Rattle.laws.specs.Given.{slices-long}
 use Rattle.writing.specs.Passing.{passing}
-use Rattle.writing.proofs.Passed.{slice-wide, own-aside}
+use Rattle.writing.proofs.Passed.{own-aside}
 use Rattle.writing.proofs.slices_passed.Statement.{statement}
 use Rattle.writing.proofs.slices_passed.Tie as tie
 
@@ -53,7 +53,7 @@ slice-aggregate-slice-formed c =
     let a = s .args in
     let x = passing (a .n) (a .own) (now (a .lengths)) (now (a .cells)) in
     let w = c .before .slice-passed .ensures ∙ own-aside (a .n) (a .own) (now (a .lengths)) (now (a .cells)) (t .before .loop .p) in
-    sym (ap length w ∙ slice-wide x (s .pre .0) (s .pre .1) (t .before .loop .p) (t .loop-test .taken))
+    sym (ap length w ∙ slices-long x (s .pre .0) (s .pre .1) (t .before .loop .p) (t .loop-test .taken))
 
 slice-formed-requires : tie.Need-slice-formed-requires Inv-loop μ-loop
 slice-formed-requires c κs =
@@ -62,7 +62,7 @@ slice-formed-requires c κs =
     let a = s .args in
     let x = passing (a .n) (a .own) (now (a .lengths)) (now (a .cells)) in
     let w = c .before .slice-passed .ensures ∙ own-aside (a .n) (a .own) (now (a .lengths)) (now (a .cells)) (t .before .loop .p) in
-    (s .pre .1, ap length w ∙ slice-wide x (s .pre .0) (s .pre .1) (t .before .loop .p) (t .loop-test .taken), s .pre .2)
+    (s .pre .1, ap length w ∙ slices-long x (s .pre .0) (s .pre .1) (t .before .loop .p) (t .loop-test .taken), s .pre .2)
 
 returns : tie.Need-returns Inv-loop μ-loop
 returns c =

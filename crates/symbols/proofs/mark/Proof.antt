@@ -6,11 +6,10 @@ use lib.ListN.{length, getD, drop}
 use denote.Ref.{now}
 use borrow.Author.Needs.{needs}
 use Rattle.facts.specs.Members.{in-at}
 use Rattle.symbols.specs.Marks.{marks}
-use Rattle.symbols.proofs.Digits.{make-bit, mark-fits}
-use Rattle.free.proofs.Marking.{mark-next, mark-end}
-use Rattle.free.proofs.mark.Statement.{statement}
-use Rattle.free.proofs.mark.Tie as tie
+use Rattle.symbols.proofs.Digits.{make-bit, mark-fits, mark-next, mark-end}
+use Rattle.symbols.proofs.mark.Statement.{statement}
+use Rattle.symbols.proofs.mark.Tie as tie
 
 abbrev Inv-loop : tie.InvT-loop
 Inv-loop w l all₀ i₀ all i = (i ≤ length l) × (all < 2 ^ 64) × (marks w l ≡ marks all (drop i l))
