@@ -7,6 +7,7 @@ pub mod histories;
 pub mod loose;
 pub mod prng;
 pub mod rows;
+pub mod states;
 pub mod tables;
 pub mod texts;
 
