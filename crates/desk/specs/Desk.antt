@@ -2,7 +2,7 @@
 -- call on a table refuses fewer than 4 bytes by 1, so that calls before an accepted `I` are refused 1. Assumes nothing.
 use mathlib.Core.Bool.{cond}
 use mathlib.Core.List.{List, [], _∷_, _++_}
-use Prim.Native.Nat.{ℕ, zero, suc}
+use Prim.Native.Nat.{ℕ, suc}
 use Prim.Native.Char.{code}
 use lib.ListN.{length, replicate}
 use lib.Dec.{ltb}

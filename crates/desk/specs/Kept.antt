@@ -1,25 +1,23 @@
 -- The table in the front of a buffer that holds the largest: what each call leaves there. Assumes nothing.
-use mathlib.Core.Path.{_≡_, refl, sym, ap, ap₂, _∙_}
+use mathlib.Core.Path.{_≡_, refl, sym, ap, _∙_}
 use mathlib.Core.Bool.{Bool, true, false, cond, not, _&&_}
 use mathlib.Core.List.{List, [], _∷_, _++_}
-use Prim.Native.Nat.{ℕ, zero, suc, _+_, _*_, _≤_, _<_}
+use Prim.Native.Nat.{ℕ, _≤_, _<_}
 use native.Mathlib.Nat.{mul-le-mul}
 use native.Mathlib.Omega.{arith}
-use borrow.Author.Tests.{le-leb, lt-leb, leb-true, eq-eqb}
+use borrow.Author.Tests.{le-leb, lt-leb, eq-eqb}
 use lib.ListN.{length, getD, take, drop, replicate, length-replicate}
 use lib.Seq.{take-at, drop-at, length-take-le}
-use lib.Dec.{leb, eqb}
+use lib.Dec.{eqb}
 use Rattle.model.specs.Steps.{freshRows}
-use Rattle.model.specs.Answers.{Said, saidDone, refuse, answer, accepted, leave}
+use Rattle.model.specs.Answers.{Said, answer, accepted, leave}
 use Rattle.model.specs.Bytes.{tableSize, recordSize, inRange, tableBytes}
-use Rattle.model.specs.Calls.{freshReasons, freshSays, freshLeaves, updateSays, updateLeaves}
+use Rattle.model.specs.Calls.{freshReasons, freshSays, freshLeaves}
 use Rattle.model.specs.Promises.{Owed}
-use Rattle.slice.specs.Places.{Sizes, sizes}
-use Rattle.lines.specs.Lines.{lineRead}
+use Rattle.slice.specs.Places.{sizes}
 use Rattle.lines.specs.declared.Command.{Command}
 use Rattle.lines.specs.declared.Command.the-variants.{Fresh, Update, Meet, Compare, Superfluous, Unreadable}
-use Rattle.print.specs.Room.{Put}
-use Rattle.desk.specs.Desk.{sizeWith, roomFor, callSays, callLeaves, callText}
+use Rattle.desk.specs.Desk.{sizeWith, roomFor, callSays, callLeaves}
 
 -- ---- Sizes
 

@@ -1,5 +1,5 @@
 -- The digits that the kit's library writes are the number in decimal, and how many there are. Assumes nothing.
-use mathlib.Core.Path.{_≡_, refl, sym, ap, ap₂, _∙_}
+use mathlib.Core.Path.{_≡_, refl, ap, ap₂}
 use mathlib.Core.Bool.{Bool, true, false, cond}
 use mathlib.Core.List.{List, [], _∷_, _++_}
 use Prim.Native.Nat.{ℕ, zero, suc, _+_, _*_, _-_, _/_, _%_, _^_, _≤_, _<_}
@@ -56,11 +56,11 @@ decimal-is n k f = same-digits k (suc n) n (go k f) f
         let ten : 10 ^ suc k ≤ n = rw one-less at (f .2 (omega arith)) in
         omega (arith, below-pow (suc k))
 
--- A number below 10 ^ k has at most k digits.
 by-zero : (k : ℕ) {n : ℕ} → n < 10 ^ suc k → 10 ≤ n → 1 ≤ k
 by-zero zero few ten = absurd (omega arith)
 by-zero (suc k) few ten = omega arith
 
+-- A number below 10 ^ k has at most k digits.
 digits-few : (k m n : ℕ) → 1 ≤ k → n < 10 ^ k → length (digits m n) ≤ k
 unfolding digits
 digits-few k zero n h few = omega arith

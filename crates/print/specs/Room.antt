@@ -1,11 +1,11 @@
 -- Text put into room that is lent: what is past its end is not written, what is past the text stays. Assumes nothing.
 use mathlib.Core.Path.{_≡_, refl, sym, ap, _∙_}
 use mathlib.Core.List.{List, [], _∷_, _++_}
-use Prim.Native.Nat.{ℕ, zero, suc, _+_, _≤_}
+use Prim.Native.Nat.{ℕ, suc, _+_}
 use native.Mathlib.Nat.{add-zero, zero-add}
 use native.Mathlib.Omega.{arith}
-use lib.ListN.{length, take, drop, set, length-append, length-set}
-use lib.Seq.{sets, set-out, take-nil}
+use lib.ListN.{length, take, drop, set, length-append}
+use lib.Seq.{sets, take-nil}
 
 -- The front of the text as far as the room goes, then what stood there.
 unfoldable pub filled : List ℕ → List ℕ → List ℕ

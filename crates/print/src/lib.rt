@@ -6,7 +6,6 @@ use model::Listed;
 use model::Order;
 use model::Refusal;
 ghost use mathlib.Core.Path.{_≡_};
-ghost use mathlib.Core.List.{_++_};
 ghost use Prim.Native.Nat.{_+_, _^_, _<_, _≤_};
 ghost use lib.ListN.{set};
 ghost use Rattle.model.specs.Answers.{refused, ordered, listed, refusalNumber, orderNumber, saidDone, saidCompared, saidListed};

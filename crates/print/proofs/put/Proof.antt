@@ -1,10 +1,8 @@
 -- `put`: after i turns i bytes are put. Assumes nothing.
 use borrow.Author.Needs.{needs}
-use mathlib.Core.Path.{_≡_, ap, _∙_}
+use mathlib.Core.Path.{ap}
 use Prim.Native.Nat.{ℕ, _+_, _-_}
-use native.Mathlib.Omega.{arith}
 use lib.ListN.{length}
-use denote.Ref.{now}
 use Rattle.print.proofs.Turns.{Putting, putting-start, putting-next, putting-end}
 use Rattle.print.proofs.put.Statement.{statement}
 use Rattle.print.proofs.put.Tie as tie
