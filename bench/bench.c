@@ -1,6 +1,6 @@
 /* Measures the library and the plain C implementation side by side, and compares their answers on the same inputs.
- *     bench times          for each N and call: nanoseconds of one call, best of several runs, both ways, and the ratio; `many` goes
- *                          over so many tables that no branch predictor knows them by heart, `few` over the same four again and again
+ *     bench times          for each N and call: nanoseconds of one call, best of several runs, both ways; `many` goes over so many
+ *                          tables that no branch predictor knows them by heart, `few` over the same four again and again
  *     bench count N WHO    makes each call COUNTED times, for a program that counts instructions (WHO: library or plain)
  *     bench stack          bytes of stack that each call wrote, at N = 8
  *     bench answers        compares answers and bytes on all inputs, damaged ones too; prints how many */
@@ -20,7 +20,7 @@ struct timespec {
 };
 extern int clock_gettime(int clock, struct timespec *to);
 
-enum { MOST = STAMP_TABLE_SIZE(8), ROOM = 128 * MOST, COUNTED = 64, MONOTONIC = 1, RUNS = 60 };
+enum { MOST = STAMP_TABLE_SIZE(8), ROOM = 128 * MOST, COUNTED = 64, MONOTONIC = 1, RUNS = 10 };
 
 /* ---- Both implementations under one shape */
 
@@ -119,7 +119,7 @@ static void times_over(const char *what, size_t n, size_t count, size_t rounds) 
             best[0] = one < best[0] ? one : best[0];
             best[1] = other < best[1] ? other : best[1];
         }
-        printf("%s %d %s %.1f %.1f %.2f\n", what, (int)n, call_name[call], best[0], best[1], best[0] / best[1]);
+        printf("%s %d %s %.1f %.1f\n", what, (int)n, call_name[call], best[0], best[1]);
     }
 }
 

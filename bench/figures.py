@@ -1,6 +1,7 @@
 #!/usr/bin/env python3
 """figures.py DIR: docs/FIGURES.md from what bench/run.sh measured, on standard output."""
 import pathlib
+import statistics
 import sys
 
 DIR = pathlib.Path(sys.argv[1])
@@ -21,7 +22,23 @@ def table(head, lines):
     print()
 
 
-times = {(what, int(n), call): (float(one), float(other), float(ratio)) for what, n, call, one, other, ratio in rows("times")}
+# For each measurement the ratios of all runs, and the best time of each way.
+ratios, best = {}, {}
+for what, n, call, one, other in rows("times"):
+    key = what, int(n), call
+    ratios.setdefault(key, []).append(float(one) / float(other))
+    before = best.get(key, (float("inf"), float("inf")))
+    best[key] = (min(before[0], float(one)), min(before[1], float(other)))
+
+
+def ratio(*key):
+    return statistics.median(ratios[key])
+
+
+def spread(*key):
+    return f"{ratio(*key):.2f} ({min(ratios[key]):.2f} to {max(ratios[key]):.2f})"
+
+
 counts = {}
 for n in COPIES:
     for way in ("library", "plain"):
@@ -39,13 +56,14 @@ print("## Against plain C")
 print()
 print(
     "`bench/plain.c` is a plain C implementation of the same calls with the same refusals: its check looks at each byte once. Both are compiled by the kit's clang at -O3 for"
-    " the same processor, and called in turn in one run on the same tables, made by histories of 20 N calls; the best of 60 runs of each counts. Their answers were compared on"
+    " the same processor, and called in turn on the same tables, made by histories of 20 N calls. A ratio is of the best of 10 runs each way, and the median of 20 such ratios, with"
+    " the code placed in four ways; beside it stand the lowest and the highest of them. Their answers were compared on"
     f" {int(answers[1]):,} calls, on damaged tables too: {answers[3]} different."
 )
 print()
 print(
-    "*Many* goes over about 590 KB of different tables, as a dock meets them, *few* over the same four tables again and again. Below 1 the library is the faster one. Nanoseconds"
-    " are this machine's and of this run; the ratios and, more so, the instructions hold elsewhere."
+    "*Many* goes over about 590 KB of different tables, as a dock meets them, *few* over the same four tables again and again. Times scatter with what else the machine does, as the"
+    " ranges show; the instructions are exact."
 )
 print()
 table(
@@ -54,10 +72,10 @@ table(
         [
             str(n),
             call,
-            f"{times['many', n, call][0]:,.0f}",
-            f"{times['many', n, call][1]:,.0f}",
-            f"{times['many', n, call][2]:.2f}",
-            f"{times['few', n, call][2]:.2f}",
+            f"{best['many', n, call][0]:,.0f}",
+            f"{best['many', n, call][1]:,.0f}",
+            spread("many", n, call),
+            spread("few", n, call),
             *(
                 [f"{counts[n, 'library', call]:,}", f"{counts[n, 'plain', call]:,}", f"{counts[n, 'library', call] / counts[n, 'plain', call]:.2f}"]
                 if counts
@@ -68,7 +86,7 @@ table(
         for call in CALLS
     ],
 )
-over = [f"{call} ({times['many', 8, call][2]:.2f})" for call in CALLS if times["many", 8, call][2] > AIM_RATIO]
+over = [f"{call} ({ratio('many', 8, call):.2f})" for call in CALLS if ratio("many", 8, call) > AIM_RATIO]
 print(f"Aim: no call above {AIM_RATIO} times plain C at N = 8. " + (f"Above it in time: {', '.join(over)}." if over else "Met."))
 if counts:
     over = [call for call in CALLS if counts[8, "library", call] / counts[8, "plain", call] > AIM_RATIO]
