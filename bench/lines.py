@@ -2,7 +2,7 @@
 """lines.py: for each crate of crates.txt the functions, and the lines of code, definitions, laws and answers, as rows of a table. Blank
 lines, comments, `use` and `mod` lines count nowhere; contracts (requires, ensures) are counted by themselves. Definitions are the
 abbrev, unfoldable, record and data items of specs/ and proofs/, answers the files proofs/FUNCTION/Proof.antt, laws all else. The last
-column is the seconds of the crate's check in the last run that proved it, from target/log (none where it was not proved anew)."""
+column is the seconds of the crate's check in the last run of the gate, from target/gate (none where it did not run here)."""
 import pathlib
 import re
 
@@ -52,7 +52,7 @@ def plain_lines(files):
 
 
 def seconds(name):
-    log = pathlib.Path("target/log") / f"{name}.out"
+    log = pathlib.Path("target/gate/proofs.log")
     found = re.search(rf"^rt: {name} proved \((\d+) s\)", log.read_text(), re.M) if log.exists() else None
     return found.group(1) if found else ""
 

@@ -1,7 +1,7 @@
 #!/usr/bin/env bash
 # Writes docs/FIGURES.md: the library against a plain C implementation (times as ratios, instructions, answers), its stack, its lines.
 # Runs on x86-64; on another processor times and counts say nothing, and it stops. Instructions need valgrind, the stack needs objdump.
-# The seconds of each crate's check are those of the last `rt ci` or `rt check` whose target/ is still there.
+# The seconds of each crate's check are those of the last `.ci/run` whose target/ is still there.
 set -eu
 cd "$(dirname "$0")/.."
 . tests/kit.sh
