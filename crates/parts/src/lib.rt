@@ -1,4 +1,6 @@
 // Equal parts of a lent list: one handed back, one written. specs/ has the definitions and their laws.
+#![tactic(auto)]
+
 ghost use Rattle.std.specs.Prelude.{◌≡◌, ◌+◌, ◌*◌, ◌≤◌, length};
 ghost use Rattle.parts.specs.Parts.{part};
 ghost use Rattle.parts.specs.Handed.{Handed};

@@ -1,4 +1,6 @@
 // One row of a slice: which symbols stand in it and where. Each promise cites document 01's definitions of crate model.
+#![tactic(auto)]
+
 ghost use Rattle.std.specs.Prelude.{◌≡◌, ◌++◌, ◌+◌, ◌-◌, ◌<◌, ◌≤◌, length, get_or, take, replicate};
 ghost use Rattle.parts.specs.Handed.{Handed};
 ghost use Rattle.model.specs.Tests.{is_in, keep, earlier as earlier_of};
