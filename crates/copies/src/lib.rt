@@ -1,4 +1,6 @@
 // The copies of a checked table: the record of each where it stands, how two compare, which are superfluous.
+#![tactic(auto)]
+
 ghost use Rattle.std.specs.Prelude.{◌≡◌, not, ◌&&◌, ◌+◌, ◌*◌, ◌<◌, ◌≤◌, length, eqb};
 ghost use Rattle.parts.specs.Handed.{Handed};
 ghost use Rattle.model.specs.Steps.{is_covered};

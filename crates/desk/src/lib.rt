@@ -1,5 +1,7 @@
 // The program as a library: the input's bytes to the output's, as far as the lent room goes. The table stands in the first `size` bytes
 // of a buffer that holds the largest.
+#![tactic(auto)]
+
 ghost use Rattle.std.specs.Prelude.{◌≡◌, [], ◌+◌, ◌*◌, ◌^◌, ◌<◌, ◌≤◌, length};
 ghost use Rattle.model.specs.Answers.{said_done};
 ghost use Rattle.lines.specs.Lines.{lines_of};

@@ -1,5 +1,7 @@
 // The calls of document 01 under C names. Each returns 0 where the call is done or answered, else the refusal's number; an
 // out-parameter keeps its value at a refusal. None asks anything of its input. c/stamps.h declares them for C.
+#![tactic(auto)]
+
 ghost use Rattle.std.specs.Prelude.{◌≡◌, List, [], ◌∷◌, length};
 ghost use Rattle.model.specs.Answers.{said_done, number_of_refusal, number_of_order};
 ghost use Rattle.model.specs.Calls.{fresh_says, fresh_leaves, check_says, update_says, update_leaves, meet_says, meet_leaves, compare_says, lend_says, lend_gives, lend_place, superfluous_says, check_record_says, compare_records_says, meet_records_says, meet_records_leaves_first, meet_records_leaves_second, read_says, read_gives, write_says, write_leaves};

@@ -1,4 +1,6 @@
 // The smallest symbol that stands in no row of a slice, found in a word that has a bit for each symbol.
+#![tactic(auto)]
+
 ghost use Rattle.std.specs.Prelude.{◌≡◌, ◌≤◌, eqb};
 ghost use Rattle.parts.specs.Parts.{join};
 ghost use Rattle.model.specs.Tests.{least};

@@ -1,4 +1,6 @@
 // A fresh table: every row of every slice is the single symbol 0.
+#![tactic(auto)]
+
 ghost use Rattle.std.specs.Prelude.{◌≡◌, [], ◌∷◌, ◌+◌, ◌*◌, ◌≤◌, ◌<◌, length, take};
 ghost use Rattle.parts.specs.Parts.{join};
 ghost use Rattle.parts.specs.Written.{written};

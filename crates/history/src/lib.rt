@@ -1,1 +1,2 @@
 // The proof of demand 3 on rows; no code.
+#![tactic(auto)]

@@ -1,4 +1,6 @@
 // The program's input: the end of a line or word, a word as a number, a line as a call.
+#![tactic(auto)]
+
 ghost use Rattle.std.specs.Prelude.{◌≡◌};
 ghost use Rattle.lines.specs.Lines.{number_of, letter_of_word, has_good_lead, alone, with_one, with_two, command_of, words_of, line_read};
 ghost use Rattle.lines.specs.Pieces.{Placed};

@@ -1,4 +1,6 @@
 // The calls on two loose records: compare and meet. None asks anything of its input.
+#![tactic(auto)]
+
 ghost use Rattle.std.specs.Prelude.{◌≡◌, [], ◌∷◌};
 ghost use Rattle.model.specs.Answers.{said_done, said_compared, done, answer};
 ghost use Rattle.model.specs.Calls.{compare_records_says, meet_records_says, meet_records_leaves_first, meet_records_leaves_second};

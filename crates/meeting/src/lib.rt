@@ -1,4 +1,6 @@
 // The meeting of two records, written over them, slice by slice. Both new slices are there by value before one byte is written.
+#![tactic(auto)]
+
 ghost use Rattle.std.specs.Prelude.{◌≡◌, ◌+◌, ◌*◌, ◌<◌, ◌≤◌, length};
 ghost use Rattle.parts.specs.Written.{written};
 ghost use Rattle.model.specs.Bytes.{header_size, slice_size, record_size};

@@ -1,5 +1,7 @@
 // One slice of the meeting of two records: its new heads, the cut row, its new rows. `met` reads all of the slice in both records and gives
 // both results by value; nothing is written here.
+#![tactic(auto)]
+
 ghost use Rattle.std.specs.Prelude.{◌≡◌, ◌+◌, ◌*◌, ◌<◌, length, take};
 ghost use Rattle.parts.specs.Parts.{join};
 ghost use Rattle.row.specs.Tab.{tab};

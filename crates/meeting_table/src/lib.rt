@@ -1,5 +1,7 @@
 // The meeting of two copies of one table, written in place: of the table the parts where records a and b stand are lent on to the writer
 // of one record.
+#![tactic(auto)]
+
 ghost use Rattle.std.specs.Prelude.{◌≡◌, ◌+◌, ◌*◌, ◌<◌, ◌≤◌, length};
 ghost use Rattle.parts.specs.Parts.{put};
 ghost use Rattle.parts.specs.Written.{written};

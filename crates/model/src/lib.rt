@@ -1,5 +1,6 @@
 // What the calls answer and what they pass, as types. specs/ has document 01's definitions over them: rows and steps, bytes, calls,
 // version vectors, histories, the bench sheet and the shortcuts. This crate has no code.
+#![tactic(auto)]
 
 // What one slice says of a copy against another.
 #[derive(Drop)]

@@ -1,4 +1,6 @@
 // Two records side by side: the answer of each slice, and the comparison.
+#![tactic(auto)]
+
 ghost use Rattle.std.specs.Prelude.{◌≡◌, cond, ◌+◌, ◌<◌, length};
 ghost use Rattle.parts.specs.Handed.{Handed};
 ghost use Rattle.model.specs.Steps.{slice_answer_of, answer_at_slice, order_of, is_behind, is_ahead, winning_row};

@@ -1,5 +1,7 @@
 // What the program prints, put into lent room as far as it goes: text, numbers in decimal, answers, lines. Places stay far below what a
 // word holds, so that no sum wraps. An answer takes at most 11 bytes.
+#![tactic(auto)]
+
 ghost use Rattle.std.specs.Prelude.{◌≡◌, ◌+◌, ◌^◌, ◌<◌, ◌≤◌, set};
 ghost use Rattle.model.specs.Answers.{refused, ordered, listed, number_of_refusal, number_of_order, said_done, said_compared, said_listed};
 ghost use Rattle.print.specs.Text.{decimal};

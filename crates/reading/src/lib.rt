@@ -1,4 +1,6 @@
 // The rows of one loose record, read. The promise of read_rows cites document 01's definitions of crate model.
+#![tactic(auto)]
+
 ghost use Rattle.std.specs.Prelude.{◌≡◌, [], ◌∷◌};
 ghost use Rattle.model.specs.Bytes.{record_rows};
 ghost use Rattle.model.specs.Calls.{length_given, cells_given, over_room, blank_rows, read_says, read_gives};

@@ -1,4 +1,6 @@
 // One record in bytes: is it well formed, and the check of a loose record. Each promise cites document 01's definitions of crate model.
+#![tactic(auto)]
+
 ghost use Rattle.std.specs.Prelude.{◌≡◌, [], ◌<◌, ◌≤◌, length};
 ghost use Rattle.parts.specs.Parts.{part};
 ghost use Rattle.parts.specs.Written.{written};

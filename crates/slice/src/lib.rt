@@ -1,4 +1,6 @@
 // One slice of a record and one row of a slice, where they stand. Each asks for what the check has shown.
+#![tactic(auto)]
+
 ghost use Rattle.std.specs.Prelude.{◌≡◌, ◌+◌, ◌*◌, ◌<◌, ◌≤◌, length};
 ghost use Rattle.parts.specs.Handed.{Handed};
 ghost use Rattle.model.specs.Tests.{head};

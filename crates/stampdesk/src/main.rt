@@ -1,5 +1,7 @@
 // stampdesk: standard input through the desk to standard output. The last of 65,537 bytes only tells that the input is too long. Where a
 // read fails nothing is written: every output of the program starts with its header.
+#![tactic(auto)]
+
 ghost use Rattle.std.specs.Prelude.{◌-◌, ◌≤◌, ◌≡◌, length};
 ghost use Rattle.stampdesk.specs.Got.{Within};
 

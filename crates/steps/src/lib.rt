@@ -1,4 +1,6 @@
 // The calls that change a table: update of a copy, meeting of two. None asks anything of its input.
+#![tactic(auto)]
+
 ghost use Rattle.std.specs.Prelude.{◌≡◌, [], ◌∷◌, eqb};
 ghost use Rattle.model.specs.Answers.{said_done, done, refuse, answer};
 ghost use Rattle.model.specs.Calls.{update_says, update_leaves, meet_says, meet_leaves};

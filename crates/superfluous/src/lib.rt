@@ -1,4 +1,6 @@
 // The superfluous copies of a checked table, as a mask.
+#![tactic(auto)]
+
 ghost use Rattle.std.specs.Prelude.{◌≡◌, ◌<◌};
 ghost use Rattle.model.specs.Bytes.{table_rows};
 ghost use Rattle.copies.specs.Copies.{TableShown};

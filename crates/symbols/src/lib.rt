@@ -1,5 +1,7 @@
 // The symbols of a row as the bits of a word: whether a row is well formed, and which symbol is free. Each promise cites document 01's
 // definitions of crate model.
+#![tactic(auto)]
+
 ghost use Rattle.std.specs.Prelude.{◌≡◌, ◌+◌, ◌≤◌, length, eqb};
 ghost use Rattle.model.specs.Tests.{every};
 ghost use Rattle.model.specs.Bytes.{unused as unused_cell, symbols_are_formed, row_is_formed};

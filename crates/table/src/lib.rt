@@ -1,4 +1,6 @@
 // The calls on a table that only read it: check, compare, lend, superfluous copies. None asks anything of its input.
+#![tactic(auto)]
+
 ghost use Rattle.std.specs.Prelude.{◌≡◌, ◌||◌, [], ◌∷◌, ◌+◌, ◌≤◌, ◌<◌, length, leb};
 ghost use Rattle.std.specs.Int.Count.{ones};
 ghost use Rattle.parts.specs.Handed.{Handed};

@@ -1,4 +1,6 @@
 // The update of one copy of a checked table, in place: the new row is there by value before one byte is written.
+#![tactic(auto)]
+
 ghost use Rattle.std.specs.Prelude.{◌≡◌, ◌∷◌, ◌+◌, ◌-◌, ◌<◌, ◌≤◌, length, get_or, take};
 ghost use Rattle.parts.specs.Written.{written};
 ghost use Rattle.row.specs.Tab.{tab};

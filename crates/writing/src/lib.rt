@@ -1,4 +1,6 @@
 // Rows written into a lent buffer as one loose record. The promise of write_rows cites document 01's definitions of crate model.
+#![tactic(auto)]
+
 ghost use Rattle.std.specs.Prelude.{◌≡◌, [], ◌∷◌, ◌<◌, ◌≤◌, length, take};
 ghost use Rattle.parts.specs.Parts.{join};
 ghost use Rattle.model.specs.Tests.{all};

@@ -10,8 +10,8 @@ loop-i-init c = cut_start _ _
 pub loop-i-preserved : goal.loop-i-preserved
 loop-i-preserved c =
     elim c.if-among.branch [
-      then-among w ↦ cut_more c.loop-i.invariant c.loop-i-test.true c.requires (sym c.among.ensures ∙ w.if-among.true) w.row-is w.m-is
-    | else-among w ↦ cut_same c.loop-i.invariant c.loop-i-test.true (sym c.among.ensures ∙ w.if-among.false) w.row-is w.m-is
+      | then-among w ↦ cut_more c.loop-i.invariant c.loop-i-test.true c.requires (sym c.among.ensures ∙ w.if-among.true) w.row-is w.m-is
+      | else-among w ↦ cut_same c.loop-i.invariant c.loop-i-test.true (sym c.among.ensures ∙ w.if-among.false) w.row-is w.m-is
     ]
 
 pub returns : goal.returns
