@@ -1,0 +1,24 @@
+-- `slice::row_in` meets its contract: row k is part k of the slice, and its symbols stand behind its length byte. Assumes nothing.
+use native.Mathlib.Omega.{arith}
+use mathlib.Core.Path.{ap, ◌∙◌}
+use Rattle.model.specs.Bytes.{row_in_slice, symbols_in}
+use Rattle.slice.specs.Places.{row_fits, row_long}
+use Rattle.slice.proofs.row_in.Goals as goal
+
+pub overflow_add-n : goal.overflow_add-n
+overflow_add-n c = omega (arith, c.requires.0.few)
+
+pub part_at-requires : goal.part_at-requires
+part_at-requires c = row_fits c.requires.0 c.args.k c.requires.1
+
+pub symbols-requires : goal.symbols-requires
+symbols-requires c =
+    let k = c.args.k in
+    rw c.part_at.ensures.bytes (omega (arith, row_long c.requires.0 k c.requires.1, (c.requires.0.rows k c.requires.1).high))
+
+pub returns : goal.returns
+unfolding row_in_slice
+returns c =
+    let p = c.part_at.ensures in
+    let e = c.symbols.ensures in
+    record { within = e.within ∙ p.within; at = omega (arith, e.at, p.at); bytes = e.bytes ∙ ap symbols_in p.bytes }
