@@ -1,12 +1,12 @@
 -- The tests of a slice, of a record and of the check, in the order in which code makes them: each that fails, and the last that
 -- decides. Assumes nothing.
 use mathlib.Core.Path.{◌≡◌, sym, ◌∙◌}
-use mathlib.Core.Bool.{Bool, true, false, not}
+use mathlib.Core.Bool.{Bool, true, false}
 use mathlib.Core.List.{List}
 use Prim.Native.Nat.{ℕ, ◌≤◌, ◌<◌}
 use lib.ListN.{length, get_or}
 use lib.Dec.{eqb}
-use borrow.Author.Tests.{eq-eqb, ne_eqb, lt-ltb, le-ltb, not-false}
+use borrow.Author.Tests.{eq-eqb, ne_eqb, lt-ltb, le-ltb}
 use Rattle.parts.specs.Parts.{part}
 use Rattle.model.specs.Tests.{all}
 use Rattle.model.specs.Answers.{Said, refused, answer}
@@ -29,8 +29,8 @@ module _ (n own : ℕ) (s : List ℕ) where
 
 -- The test of the rows was made, and did not fail.
 pub rows_passed : {n : ℕ} {s : List ℕ} (b : Bool) → n ≤ 8 → length s ≡ slice_size n
-    → b ≡ all n (λ k. row_is_formed n (part (row_size n) k s)) → not b ≡ false → RowsPassed n s
-rows_passed b few long e h = record { few = few; long = long; formed = sym e ∙ not-false b h }
+    → b ≡ all n (λ k. row_is_formed n (part (row_size n) k s)) → b ≡ true → RowsPassed n s
+rows_passed b few long e h = record { few = few; long = long; formed = sym e ∙ h }
 
 -- ---- A record: its header, then its slices
 
