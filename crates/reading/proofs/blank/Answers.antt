@@ -2,12 +2,8 @@
 use mathlib.Core.Path.{refl}
 use Rattle.parts.specs.Parts.{join}
 use Rattle.model.specs.Calls.{is_within, length_given, cells_given, over_room, rows_given, blank_rows}
-use Rattle.reading.proofs.blank.Statement.{statement}
-use Rattle.reading.proofs.blank.Tie as tie
+use Rattle.reading.proofs.blank.Goals as goal
 
-returns : tie.Need-returns
+pub returns : goal.returns
 unfolding blank_rows rows_given over_room length_given cells_given is_within join
 returns c = refl
-
-pub blank-spec : {M : Type 1} → statement M
-blank-spec = tie.close (tie.spec returns)
