@@ -1,11 +1,11 @@
 -- Document 01's bench sheet: P1 to P12 as one list of cases, each with what the calls' definitions give on bytes and what the sheet
--- wants, and the one theorem that they are the same, by computation. Assumes nothing.
-use Rattle.std.specs.Prelude.{◌≡◌, refl, List, [], ◌∷◌, map, ℕ}
+-- wants. The one theorem that they are the same, by computation, stands in proofs/Bench.antt. Assumes nothing.
+use Rattle.std.specs.Prelude.{List, [], ◌∷◌, ℕ}
 use Rattle.model.specs.Steps.{fresh_rows}
 use Rattle.model.specs.Answers.{refused, done, ordered, listed}
 use Rattle.model.specs.Bytes.{table_bytes, record_in}
 use Rattle.model.specs.Calls.{meet_leaves}
-use Rattle.model.specs.History.{Call, update, meet}
+use Rattle.model.specs.History.{update, meet}
 use Rattle.model.specs.Worked.{Seen, bytes, rows, said, fresh, after, slice_rows, checked, compared, met, listing, compared_loose, checked_loose, forged}
 
 pub data Name : Type 0 where
@@ -147,8 +147,3 @@ cases =
     }
     ∷ record { name = P12; got = listing (after 3 (update 0 ∷ [])) ∷ []; wanted = said (listed 6 2) ∷ [] }
     ∷ []
-
--- P1 to P12: each case gives what is wanted.
-pub bench_sheet : map (λ c. c.got) cases ≡ map (λ c. c.wanted) cases
-unfolding cases
-bench_sheet = refl

@@ -1,6 +1,6 @@
 -- Document 01's 'Record and table': the layout, the sizes, rows read from bytes and written as bytes, and well-formedness as a test
 -- that computes. Everything is total on any bytes. Assumes nothing.
-use Rattle.std.specs.Prelude.{Bool, not, ◌&&◌, List, [], ◌∷◌, ◌++◌, ℕ, ◌+◌, ◌*◌, ◌-◌, length, get_or, take, drop, replicate, eqb, ltb, leb}
+use Rattle.std.specs.Prelude.{Bool, ◌&&◌, List, [], ◌∷◌, ◌++◌, ℕ, ◌+◌, ◌*◌, ◌-◌, length, get_or, take, drop, replicate, eqb, ltb, leb}
 use Rattle.parts.specs.Parts.{part, join}
 use Rattle.model.specs.Tests.{any, all, head, is_in, every, different}
 use Rattle.model.specs.Steps.{Slice, Record, Table}

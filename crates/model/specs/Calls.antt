@@ -5,9 +5,9 @@ use Rattle.std.specs.Prelude.{Bool, not, ◌&&◌, ◌||◌, cond, List, [], ◌
 use Rattle.std.specs.Int.Count.{ones}
 use Rattle.parts.specs.Parts.{part, join}
 use Rattle.model.specs.Tests.{any_pair}
-use Rattle.model.specs.Steps.{Record, Table, fresh_rows, updated_table, unrelated, comparison, met_record, met_table, is_superfluous, mask_of}
+use Rattle.model.specs.Steps.{Record, fresh_rows, updated_table, unrelated, comparison, met_record, met_table, is_superfluous, mask_of}
 use Rattle.model.specs.Answers.{Said, done, ordered, listed, Reason, refuse, answer, leave, number_of_order}
-use Rattle.model.specs.Bytes.{header_size, record_size, table_size, unused, header_bytes, record_bytes, table_bytes, marked, copies_in, own_in, symbols_in, record_rows, record_in, table_rows, is_in_range, record_is_formed, table_is_formed}
+use Rattle.model.specs.Bytes.{record_size, table_size, unused, header_bytes, record_bytes, table_bytes, marked, copies_in, own_in, symbols_in, record_rows, record_in, table_rows, is_in_range, record_is_formed, table_is_formed}
 use Rattle.model.specs.declared.Order.{Order}
 use Rattle.model.specs.declared.Rows.{Rows}
 

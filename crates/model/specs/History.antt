@@ -1,7 +1,7 @@
 -- Histories: a list of updates and meetings, run on the bytes of a table by the calls' own definitions with the answers kept, and run
 -- on version vectors by the numbers alone, so that a model which refuses everything is not in agreement. Between the two stands the
 -- same list run on rows. Assumes nothing.
-use Rattle.std.specs.Prelude.{Bool, true, cond, not, ◌&&◌, List, [], ◌∷◌, ℕ, eqb, ltb}
+use Rattle.std.specs.Prelude.{Bool, cond, not, ◌&&◌, List, [], ◌∷◌, ℕ, eqb, ltb}
 use Rattle.model.specs.Steps.{Table, updated_table, met_table, unrelated}
 use Rattle.model.specs.Answers.{Said}
 use Rattle.model.specs.Calls.{update_says, update_leaves, meet_says, meet_leaves}

@@ -1,9 +1,9 @@
 -- Document 01's 'Shortcuts that lose a claim': for each one a short history from fresh with the bytes of slice 0 and the answers that
--- document 01 gives, and the one theorem that the definitions give them, by computation. Each shortcut, made in the definitions, is
--- refused here. Assumes nothing.
-use Rattle.std.specs.Prelude.{◌≡◌, refl, List, [], ◌∷◌, map, ℕ}
-use Rattle.model.specs.Answers.{ordered, done}
-use Rattle.model.specs.History.{Call, update, meet}
+-- document 01 gives. The one theorem that the definitions give them, by computation, stands in proofs/Shortcuts.antt: each shortcut,
+-- made in the definitions, is refused there. Assumes nothing.
+use Rattle.std.specs.Prelude.{List, [], ◌∷◌, ℕ}
+use Rattle.model.specs.Answers.{ordered}
+use Rattle.model.specs.History.{update, meet}
 use Rattle.model.specs.Worked.{Seen, bytes, said, after, slice_seen, checked, compared}
 
 pub data Shortcut : Type 0 where
@@ -84,8 +84,3 @@ cases =
           ∷ [];
     }
     ∷ []
-
--- Each history gives what is wanted.
-pub shortcuts_refused : map (λ c. c.got) cases ≡ map (λ c. c.wanted) cases
-unfolding cases
-shortcuts_refused = refl

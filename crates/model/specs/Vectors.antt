@@ -1,6 +1,6 @@
 -- Version vectors of unbounded whole numbers, by Table 2.1 of source document 000, and their comparison in document 01's terms.
 -- Assumes nothing.
-use Rattle.std.specs.Prelude.{Bool, cond, ◌&&◌, ℕ, ◌+◌, max, eqb, ltb}
+use Rattle.std.specs.Prelude.{cond, ◌&&◌, ℕ, ◌+◌, max, eqb, ltb}
 use Rattle.model.specs.Tests.{count}
 use Rattle.model.specs.Steps.{order_of, is_named}
 use Rattle.model.specs.declared.Order.{Order}

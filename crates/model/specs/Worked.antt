@@ -7,7 +7,7 @@ use Rattle.model.specs.Tests.{any, all, count, any_pair, least, is_in, every, di
 use Rattle.model.specs.Steps.{Table, fresh_rows, in_use, new_symbol, head_of_other, updated_row, updated_slice, updated_record, updated_table, slice_answer_of, answer_at_slice, unrelated, comparison, b_is_winner, winning_row, new_head_of, is_named, new_heads_of, cut_row_of, cached_row_of, met_row, met_record, met_table, is_superfluous, mask_of}
 use Rattle.model.specs.Answers.{Said, answer, accepted, leave}
 use Rattle.model.specs.Bytes.{table_size, row_bytes, slice_bytes, header_bytes, record_bytes, table_bytes, marked, copies_in, own_in, symbols_in, row_in_slice, slice_in, record_rows, record_in, table_rows, is_in_range, length_is_formed, symbols_are_formed, row_is_formed, principal_is_formed, slice_is_formed, header_is_formed, record_is_formed, table_is_formed}
-use Rattle.model.specs.Calls.{form_reasons, record_reasons, table_reasons, fresh_reasons, fresh_says, fresh_leaves, check_says, update_reasons, update_says, update_leaves, unrelated_copies, meet_reasons, meet_says, meet_leaves, copy_order, compare_reasons, compare_says, superfluous_reasons, superfluous_mask_of, superfluous_says, check_record_says, pair_reasons, meet_records_says, meet_records_leaves_first, meet_records_leaves_second, compare_records_says}
+use Rattle.model.specs.Calls.{form_reasons, record_reasons, table_reasons, fresh_reasons, fresh_leaves, check_says, update_reasons, update_says, update_leaves, unrelated_copies, meet_reasons, meet_says, meet_leaves, copy_order, compare_reasons, compare_says, superfluous_reasons, superfluous_mask_of, superfluous_says, check_record_says, pair_reasons, compare_records_says}
 use Rattle.model.specs.History.{Call, call_says, call_leaves, Run, run_bytes}
 
 -- What is seen: bytes, the rows of a slice (head first), what a call answered.
