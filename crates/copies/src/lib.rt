@@ -11,7 +11,7 @@ ghost use Rattle.copies.specs.Copies.{TableShown, apart, order, apart_from, cove
 use model::{Compared, Order};
 
 // What other copies do to a copy: one is unrelated to it; none is, and one is equal to it or newer; neither.
-#[derive(Drop)]
+#[derive(Clone, Copy)]
 pub enum Cover {
     Unrelated,
     Covered,

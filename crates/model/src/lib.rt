@@ -3,7 +3,7 @@
 #![tactic(auto)]
 
 // What one slice says of a copy against another.
-#[derive(Drop)]
+#[derive(Clone, Copy)]
 pub enum SliceAnswer {
     Level,
     Behind,
@@ -12,7 +12,7 @@ pub enum SliceAnswer {
 }
 
 // How a copy compares with another.
-#[derive(Drop)]
+#[derive(Clone, Copy)]
 pub enum Order {
     Equal,
     Older,
@@ -21,7 +21,7 @@ pub enum Order {
 }
 
 // Why a call is refused: document 01's numbers 1 to 9, in their order.
-#[derive(Drop)]
+#[derive(Clone, Copy)]
 pub enum Refusal {
     Unmarked,
     WrongN,
@@ -35,21 +35,21 @@ pub enum Refusal {
 }
 
 // The answer of a call that is done or refused.
-#[derive(Drop)]
+#[derive(Clone, Copy)]
 pub enum Done {
     Ok,
     Refused(Refusal),
 }
 
 // The answer of a comparison.
-#[derive(Drop)]
+#[derive(Clone, Copy)]
 pub enum Compared {
     As(Order),
     Refused(Refusal),
 }
 
 // The answer of the list of superfluous copies: bit i of the mask for copy i, and how many.
-#[derive(Drop)]
+#[derive(Clone, Copy)]
 pub enum Listed {
     Copies { mask: u8, count: u8 },
     Refused(Refusal),

@@ -9,7 +9,7 @@ ghost use Rattle.superfluous.specs.Mask.{masked, bit_of};
 use copies::Cover;
 
 // The mask with bit i for copy i, or that some pair of copies has an unrelated slice.
-#[derive(Drop)]
+#[derive(Clone, Copy)]
 pub enum Masked {
     Unrelated,
     Mask(u8),
