@@ -1,12 +1,12 @@
 -- A part written n times behind a header, and fresh rows, slices and records as such. Assumes nothing.
 use mathlib.Core.Path.{◌≡◌, refl, sym, ap, ◌∙◌}
 use mathlib.Core.List.{List, [], ◌∷◌, ◌++◌}
-use Prim.Native.Nat.{ℕ, ◌+◌, ◌*◌, ◌-◌, ◌≤◌}
+use Prim.Native.Nat.{ℕ, ◌+◌, ◌*◌, ◌≤◌}
 use native.Mathlib.Nat.{zero-add}
 use native.Mathlib.Omega.{arith}
 use lib.ListN.{length, take}
 use lib.Seq.{take_all}
-use Rattle.parts.specs.Parts.{join, room, length_repeated}
+use Rattle.parts.specs.Parts.{join, length_repeated}
 use Rattle.parts.specs.Written.{written, length-written, take-written}
 use Rattle.model.specs.Steps.{fresh_rows}
 use Rattle.model.specs.Bytes.{row_size, slice_size, record_size, row_bytes, slice_bytes, header_bytes, record_bytes}
