@@ -13,7 +13,7 @@ ghost use Rattle.meeting_slice.specs.NewRows.{head_from, chosen_row};
 ghost use Rattle.meeting_slice.specs.Met.{MetSlices};
 
 // One slice of both records after their meeting, a's and b's.
-#[derive(Drop)]
+#[derive(Clone, Copy)]
 pub struct After {
     pub a: [u8; 72],
     pub b: [u8; 72],
