@@ -1,4 +1,5 @@
 pub mod Text
 pub mod Printed
 pub mod Room
+pub mod Digits
 pub mod Decimal
