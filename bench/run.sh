@@ -16,7 +16,7 @@ mkdir -p "$figures"
 # Where a loop falls in a cache line changes its speed: the code is placed in four ways, and the ratios' median counts.
 for pad in 48 32 16 0; do
   printf '.fill %d, 1, 0x90\n' "$pad" | "$kit_tools/bin/clang" --target=x86_64-linux-gnu -x assembler -c - -o "$c_out/pad.o"
-  c_program bench "$c_out/pad.o" "$c_out/bench.o" "$c_out/plain.o" target/staticlib/libexport.a
+  c_program bench "$c_out/pad.o" "$c_out/bench.o" "$c_out/plain.o" "$c_archive"
   c_command bench
   for _ in 1 2 3 4 5; do
     "${c_words[@]}" times >>"$figures/times"
@@ -24,7 +24,7 @@ for pad in 48 32 16 0; do
 done
 "${c_words[@]}" answers >"$figures/answers"
 "${c_words[@]}" stack >"$figures/stack.measured"
-python3 bench/stack.py target/staticlib/libexport.a >"$figures/stack"
+python3 bench/stack.py "$c_archive" >"$figures/stack"
 if command -v valgrind >/dev/null; then
   for n in 2 4 8; do
     for way in library:stamp plain:plain; do

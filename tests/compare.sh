@@ -13,7 +13,7 @@ broken() {
 
 c_library || broken "the archive was not built"
 c_object c/driver.c || broken "the driver was not compiled"
-c_program driver "$c_out/driver.o" target/staticlib/libexport.a || broken "the driver was not linked"
+c_program driver "$c_out/driver.o" "$c_archive" || broken "the driver was not linked"
 (cd counter && cargo build --release --offline --bin compare) || broken "the comparing program was not built"
 compare=counter/target/release/compare
 c_command driver

@@ -1,20 +1,16 @@
 # For the scripts beside it: C over the proved library, by the kit's own compiler, linker and loader, so that one way serves both kinds
 # of machine. Programs are for x86-64; on another processor the kit's emulator runs them. Sourced from the repository's root.
-kit=$(dirname "$(dirname "$(rt doc)")")
-kit_own=$kit/on/$(uname -m)
-kit_tools=$kit_own/toolchain
+kit=$(dirname "$(rt doc)")
+kit_tools=$kit/toolchain
 c_out=target/c
 
-# The proved archive, target/staticlib/libexport.a; made again where a source or the kit has changed.
+# The proved archive; made again where a source or the kit has changed.
+c_archive=crates/export/out/libexport.a
 c_library() {
-  local key
-  key=$({ rt version && find crates.txt crates -type f -exec sha256sum {} +; } | sort | sha256sum)
-  [ "$(cat "$c_out/library.key" 2>/dev/null)" != "$key" ] || [ ! -f target/staticlib/libexport.a ] || return 0
-  if ! rt staticlib export >"$c_out/staticlib.log" 2>&1; then
-    tail -n 20 "$c_out/staticlib.log"
+  if ! (cd crates/export && rt lib) >"$c_out/library.log" 2>&1; then
+    tail -n 20 "$c_out/library.log"
     return 1
   fi
-  printf '%s\n' "$key" >"$c_out/library.key"
 }
 
 # The flags of every C file; -O3 is what the kit gives its own code.
@@ -31,7 +27,7 @@ c_object() {
 c_program() {
   local name=$1
   shift
-  "$kit_own/bin/rattle-link" --target x86_64-unknown-linux-gnu --toolchain "$kit_tools" -o "$c_out/$name" "$@" >"$c_out/$name.log" 2>&1 && return 0
+  "$kit/bin/rattle-link" --target x86_64-unknown-linux-gnu --toolchain "$kit_tools" -o "$c_out/$name" "$@" >"$c_out/$name.log" 2>&1 && return 0
   cat "$c_out/$name.log"
   return 1
 }
