@@ -13,7 +13,7 @@ pub enum Number {
 }
 
 // A line of the program: `I n`, `U i`, `M i j`, `C i j`, `D`, or none of these.
-#[derive(Drop)]
+#[derive(Clone, Copy)]
 pub enum Command {
     Fresh(usize),
     Update(usize),

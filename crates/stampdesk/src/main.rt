@@ -5,6 +5,8 @@
 ghost use Rattle.std.specs.Prelude.{◌-◌, ◌≤◌, ◌≡◌, length};
 ghost use Rattle.stampdesk.specs.Got.{Within};
 
+use std::io::{Read, Stdin, Write};
+
 // What was read: so many bytes up to the end of the input or of the room, or a failure.
 #[derive(Drop)]
 enum Got {
@@ -13,23 +15,22 @@ enum Got {
 }
 
 // One read, into the room from `from` on; none is the end of the input.
-fn read_at(buf: &mut [u8], from: usize) -> Got
+fn read_at(input: &mut Stdin, buf: &mut [u8], from: usize) -> Got
     requires { from ≤ length buf.old }
     ensures { Within (length buf.old - from) result }
 {
-    let got = libc::read(0, &mut buf[from..]);
-    if got < 0 {
+    let Ok(got) = input.read(&mut buf[from..]) else {
         return Got::Failed;
-    }
-    Got::Bytes(io::count(got, &buf[from..]))
+    };
+    Got::Bytes(got)
 }
 
-fn read_all(buf: &mut [u8]) -> Got
+fn read_all(input: &mut Stdin, buf: &mut [u8]) -> Got
     ensures { Within (length buf.old) result }
 {
     let mut done = 0;
     while done < buf.len() {
-        let got = read_at(buf, done);
+        let got = read_at(input, buf, done);
         let Got::Bytes(more) = got else {
             return Got::Failed;
         };
@@ -54,13 +55,13 @@ fn space() -> [u8; 1310737]
     [0; 1310737]
 }
 
-fn main() {
+fn main(rt: HostRuntime) {
     let mut input = room();
-    let got = read_all(&mut input);
+    let got = read_all(&mut rt.stdin(), &mut input);
     let Got::Bytes(n) = got else {
         return;
     };
     let mut out = space();
     let m = desk::run(&input[..n], &mut out);
-    io::write_all(1, &out[..m]);
+    let _ = rt.stdout().write_all(&out[..m]);
 }
