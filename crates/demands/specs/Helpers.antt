@@ -1,4 +1,4 @@
--- The public functions that serve the calls from below, and their own promises, as the sources have them (`Learnt`, as in Contracts): no
+-- The public functions that serve the calls from below, and their own promises, as the sources have them (`Learnt`, as in CallContracts): no
 -- two outcomes satisfy a promise, where the function may be called. What is fixed of a handed part is the buffer, the place and the
 -- bytes. Assumes nothing.
 use Rattle.std.specs.Prelude.{◌≡◌, List, [], ◌∷◌, ℕ, take}
@@ -33,7 +33,7 @@ use Rattle.superfluous.proofs.superfluous_mask.Reads as of·superfluous-mask
 use Rattle.record.proofs.slice_formed.Reads as of·slice-formed
 use Rattle.record.proofs.has_mark.Reads as of·has-mark
 use Rattle.record.proofs.put_header.Reads as of·put-header
-use Rattle.record.proofs.is_in_range.Reads as of·in-range
+use Rattle.record.proofs.in_range.Reads as of·in-range
 use Rattle.record.proofs.record_formed.Reads as of·record-formed
 use Rattle.free.proofs.free_symbol.Reads as of·free-symbol
 use Rattle.meeting_slice.proofs.met.Reads as of-met

@@ -1,4 +1,4 @@
--- The program's functions by their own contracts, as the sources have them (`Learnt`, as in Contracts): what the desk writes for an input
+-- The program's functions by their own contracts, as the sources have them (`Learnt`, as in CallContracts): what the desk writes for an input
 -- is document 01's output text, and no two outcomes satisfy a promise. Assumes nothing.
 use Rattle.std.specs.Prelude.{◌≡◌, List, ℕ}
 use Rattle.std.proofs.Common.{sym, ◌∙◌}
