@@ -1,24 +1,18 @@
 -- The library meets the promise, so the demands hold of it (specs/Library has the definitions). Assumes nothing.
-use Rattle.std.specs.Prelude.{◌≡◌, false, List, map, ℕ, ◌≤◌, ◌<◌, length}
-use Rattle.std.proofs.Common.{ap, ◌∙◌}
-use Rattle.std.specs.Int.Count.{ones}
+use Rattle.std.specs.Prelude.{◌≡◌, List, ℕ, ◌≤◌, length}
+use Rattle.std.proofs.Common.{◌∙◌}
 use contract.Lifetimes.{Lfts}
-use Rattle.model.specs.Tests.{head, is_in}
-use Rattle.model.specs.Steps.{is_superfluous, mask_of}
-use Rattle.model.specs.Answers.{done, ordered, listed, number_of_order}
-use Rattle.model.specs.Bytes.{table_size, table_rows}
-use Rattle.model.specs.Calls.{fresh_leaves}
-use Rattle.model.specs.Vectors.{Vectors, initial_vectors, vector_order}
-use Rattle.model.specs.History.{Call, Run, run_bytes}
+use Rattle.model.specs.Answers.{done}
+use Rattle.model.specs.Bytes.{table_size}
+use Rattle.model.specs.History.{Call}
 use Rattle.demands.specs.Asked.{Asked, Roomy, own_of, lent_to, numbers_of, rows_of}
 use Rattle.demands.specs.Versions.{Version, Meets, Name, Fresh, Check, Update, Meet, Compare, Lend, Superfluous, CheckRecord, CompareRecords, MeetRecords, ReadRows, WriteRows, name_of}
-use Rattle.demands.specs.Serves.{Service, Serves, Allows, allowed_owed}
-use Rattle.demands.specs.CallContracts.{fresh, check, update, meet, compare, lend_number, list, check_record, compare_records, meet_records, read_rows, write_rows, fresh_serves, check_serves, update_serves, meet_serves, compare_serves, lend_number_serves, list_serves, check_record_serves, compare_records_serves, meet_records_serves, read_rows_serves, write_rows_serves}
-use Rattle.demands.specs.Counted.{by_numbers, accepted_of, vectors_after, table_after}
+use Rattle.demands.specs.Serves.{Serves, allowed_owed}
+use Rattle.demands.specs.CallContracts.{fresh_serves, check_serves, update_serves, meet_serves, compare_serves, lend_number_serves, list_serves, check_record_serves, compare_records_serves, meet_records_serves, read_rows_serves, write_rows_serves}
 use Rattle.demands.specs.Demands.{Obeys, demand_1, demand_3}
 use Rattle.demands.specs.Empty.{ShutOut}
 use Rattle.demands.proofs.Empty.{shut_out}
-use Rattle.demands.specs.Lived.{buffer, lived_from, from_run}
+use Rattle.demands.specs.Lived.{lived_from, from_run}
 use Rattle.demands.specs.Library.{service_of, Library, Lives, lives}
 
 pub every_serves : (κs : Lfts 2) (c : Name) → Serves (service_of κs c)

@@ -1,17 +1,17 @@
 -- The library as it is: a version whose outcomes are those that the functions' own promises allow. It meets the promise, so the demands
 -- hold of it: proofs/Library has demand 1 and demand 3 written out, the latter for histories that are lived with it. Assumes nothing.
-use Rattle.std.specs.Prelude.{◌≡◌, false, List, map, ℕ, ◌≤◌, ◌<◌, length}
+use Rattle.std.specs.Prelude.{◌≡◌, false, List, map, ℕ, ◌<◌}
 use Rattle.std.proofs.Common.{ap, ◌∙◌}
 use Rattle.std.specs.Int.Count.{ones}
 use contract.Lifetimes.{Lfts}
 use Rattle.model.specs.Tests.{head, is_in}
 use Rattle.model.specs.Steps.{is_superfluous, mask_of}
 use Rattle.model.specs.Answers.{done, ordered, listed, number_of_order}
-use Rattle.model.specs.Bytes.{table_size, table_rows}
+use Rattle.model.specs.Bytes.{table_rows}
 use Rattle.model.specs.Calls.{fresh_leaves}
 use Rattle.model.specs.Vectors.{Vectors, initial_vectors, vector_order}
 use Rattle.model.specs.History.{Call, Run, run_bytes}
-use Rattle.demands.specs.Asked.{Asked, Roomy, own_of, lent_to, numbers_of, rows_of}
+use Rattle.demands.specs.Asked.{Asked}
 use Rattle.demands.specs.Versions.{Version, Meets, Name, Fresh, Check, Update, Meet, Compare, Lend, Superfluous, CheckRecord, CompareRecords, MeetRecords, ReadRows, WriteRows, name_of}
 use Rattle.demands.specs.Serves.{Service, Allows}
 use Rattle.demands.specs.CallContracts.{fresh, check, update, meet, compare, lend_number, list, check_record, compare_records, meet_records, read_rows, write_rows}

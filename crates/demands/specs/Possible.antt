@@ -23,7 +23,7 @@ use Rattle.demands.specs.Asked.{Asked, Roomy, fresh, check, update, meet, compar
 use Rattle.demands.specs.Obeyed.{call_ruled, call_numbers}
 use Rattle.demands.specs.Versions.{name_of}
 use Rattle.demands.specs.Serves.{Allows}
-use Rattle.demands.specs.Library.{service_of, Library}
+use Rattle.demands.specs.Library.{service_of}
 
 -- ---- Every answer of a call can be said by its enum
 
