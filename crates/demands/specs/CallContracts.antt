@@ -70,8 +70,7 @@ meet κs = service (of·meet.Asked κs) (of·meet.Learnt κs) (λ a. Asked.meet 
 pub meet_serves : (κs : Lfts 1) → Serves (meet κs)
 meet_serves κs = record { takes = λ a. tt; owes = λ a r s p. p }
 
-pub meet_determined : (κs : Lfts 1) → Determined (meet κs)
-meet_determined κs = determined (meet κs) (meet_serves κs) done_once
+-- (`meet_determined` stands in proofs/CallContracts.)
 
 -- table::compare
 abbrev pub compare : Lfts 1 → Service
@@ -159,7 +158,7 @@ read_rows_determined κs a a' r r' s s' e p p' = (read_once p (rw (same_bytes e)
     same_bytes : {b b' : List ℕ} → Asked.read_rows b ≡ Asked.read_rows b' → b ≡ b'
     same_bytes q = cc
 
--- ---- Lending: those bytes in that place. A reference has a ghost name too, which no promise fixes
+-- ---- Lending: those bytes in that place. That is all there is to a `&`: where it points, and what stands there
 
 module _ (κs : Lfts 1) (a : Dens κs lend·kinds.ps) where
   pub lend_takes : of·lend.Asked κs a
@@ -185,10 +184,10 @@ module _ (κs : Lfts 1) (x : Dens κs winning·kinds.ps) where
       let first : Slice = record_rows n x.0.now p in
       let second : Slice = record_rows n x.1.0.now p in
       Handed
-      (cond (b_is_winner a b first second) x.1.0.ptr.0 x.0.ptr.0)
-      (cond (b_is_winner a b first second) (x.1.0.ptr.1 + row_place n p b) (x.0.ptr.1 + row_place n p a))
+      (cond (b_is_winner a b first second) x.1.0.ref_ptr.0 x.0.ref_ptr.0)
+      (cond (b_is_winner a b first second) (x.1.0.ref_ptr.1 + row_place n p b) (x.0.ref_ptr.1 + row_place n p a))
       (winning_row a b first second)
-      r.ptr
+      r.ref_ptr
       r.now
       )
   winning_hands r s q = q

@@ -1,6 +1,6 @@
--- The public functions that serve the calls from below, and their own promises, as the sources have them (`Learnt`, as in Contracts): no
--- two outcomes satisfy a promise, where the function may be called. What is fixed of a handed part is the buffer, the place and the
--- bytes. Assumes nothing.
+-- The public functions that serve the calls from below, and their own promises, as the sources have them (`Learnt`, as in
+-- CallContracts): no two outcomes satisfy a promise, where the function may be called. What is fixed of a handed part is the buffer, the
+-- place and the bytes. Assumes nothing.
 use Rattle.std.specs.Prelude.{◌≡◌, List, [], ◌∷◌, ℕ, take}
 use Rattle.std.proofs.Common.{sym, ap₂, ◌∙◌}
 use contract.Lifetimes.{Lfts}
@@ -9,7 +9,7 @@ use denote.Triple.Clauses.{AtExit}
 use Rattle.parts.specs.Handed.{Handed, handed_once}
 use Rattle.model.specs.Bytes.{slice_size}
 use Rattle.parts.proofs.part_at.Reads as of·part-at
-use Rattle.parts.proofs.copy.Reads as of-copy
+use Rattle.parts.proofs.copy.Reads as of·copy
 use Rattle.row.proofs.among.Reads as of·among
 use Rattle.row.proofs.earlier.Reads as of·earlier
 use Rattle.row.proofs.new_head.Reads as of·new-head
@@ -33,10 +33,10 @@ use Rattle.superfluous.proofs.superfluous_mask.Reads as of·superfluous-mask
 use Rattle.record.proofs.slice_formed.Reads as of·slice-formed
 use Rattle.record.proofs.has_mark.Reads as of·has-mark
 use Rattle.record.proofs.put_header.Reads as of·put-header
-use Rattle.record.proofs.is_in_range.Reads as of·in-range
+use Rattle.record.proofs.in_range.Reads as of·in-range
 use Rattle.record.proofs.record_formed.Reads as of·record-formed
 use Rattle.free.proofs.free_symbol.Reads as of·free-symbol
-use Rattle.meeting_slice.proofs.met.Reads as of-met
+use Rattle.meeting_slice.proofs.met.Reads as of·met
 use Rattle.meeting_table.proofs.meet_in.Reads as of·meet-in
 use Rattle.meeting.proofs.put_slice.Reads as of·put-slice
 use Rattle.meeting.proofs.meet_pair.Reads as of·meet-pair
@@ -62,7 +62,7 @@ handed_same p q = let (b, a, e) = handed_once p q in λ i. (b i, a i, e i)
 pub part_at_fixed : (κs : Lfts 1) → Fixed (of·part-at.Learnt κs) (λ r s. seen_part r.ref_ptr r.now)
 part_at_fixed κs a r r' s s' p q = handed_same p q
 
-pub copy_fixed : (κs : Lfts 2) → Fixed (of-copy.Learnt κs) (λ r s. s.0.now)
+pub copy_fixed : (κs : Lfts 2) → Fixed (of·copy.Learnt κs) (λ r s. s.0.now)
 copy_fixed κs a r r' s s' p q = p ∙ sym q
 
 -- ---- row
@@ -163,7 +163,7 @@ free_symbol_fixed κs a r r' s s' p q = p ∙ sym q
 
 -- Of the two arrays the front that holds the slice; what stands behind it is nobody's.
 pub met_fixed : (κs : Lfts 1) (a : Dens κs met·kinds.ps) (r r' : (res_t met·kinds.r κs).Denot) (s s' : AtExit (ended_of 1 met·kinds.ps met·kinds.r) κs)
-    → of-met.Learnt κs a r s → of-met.Learnt κs a r' s'
+    → of·met.Learnt κs a r s → of·met.Learnt κs a r' s'
     → (take (slice_size a.1.1.0) r.a ≡ take (slice_size a.1.1.0) r'.a) × (take (slice_size a.1.1.0) r.b ≡ take (slice_size a.1.1.0) r'.b)
 met_fixed κs a r r' s s' p q = (p.first ∙ sym q.first, p.second ∙ sym q.second)
 

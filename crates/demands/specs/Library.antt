@@ -1,24 +1,23 @@
 -- The library as it is: a version whose outcomes are those that the functions' own promises allow. It meets the promise, so the demands
--- hold of it: demand 1 and demand 3 are written out here, the latter for histories that are lived with it. Assumes nothing.
-use Rattle.std.specs.Prelude.{◌≡◌, false, List, map, ℕ, ◌≤◌, ◌<◌, length}
+-- hold of it: proofs/Library has demand 1 and demand 3 written out, the latter for histories that are lived with it. Assumes nothing.
+use Rattle.std.specs.Prelude.{◌≡◌, false, List, map, ℕ, ◌<◌}
 use Rattle.std.proofs.Common.{ap, ◌∙◌}
 use Rattle.std.specs.Int.Count.{ones}
 use contract.Lifetimes.{Lfts}
 use Rattle.model.specs.Tests.{head, is_in}
 use Rattle.model.specs.Steps.{is_superfluous, mask_of}
 use Rattle.model.specs.Answers.{done, ordered, listed, number_of_order}
-use Rattle.model.specs.Bytes.{table_size, table_rows}
+use Rattle.model.specs.Bytes.{table_rows}
 use Rattle.model.specs.Calls.{fresh_leaves}
 use Rattle.model.specs.Vectors.{Vectors, initial_vectors, vector_order}
 use Rattle.model.specs.History.{Call, Run, run_bytes}
-use Rattle.demands.specs.Asked.{Asked, Roomy, own_of, lent_to, numbers_of, rows_of}
+use Rattle.demands.specs.Asked.{Asked}
 use Rattle.demands.specs.Versions.{Version, Meets, Name, Fresh, Check, Update, Meet, Compare, Lend, Superfluous, CheckRecord, CompareRecords, MeetRecords, ReadRows, WriteRows, name_of}
-use Rattle.demands.specs.Serves.{Service, Serves, Allows, allowed_owed}
-use Rattle.demands.specs.CallContracts.{fresh, check, update, meet, compare, lend_number, list, check_record, compare_records, meet_records, read_rows, write_rows, fresh_serves, check_serves, update_serves, meet_serves, compare_serves, lend_number_serves, list_serves, check_record_serves, compare_records_serves, meet_records_serves, read_rows_serves, write_rows_serves}
+use Rattle.demands.specs.Serves.{Service, Allows}
+use Rattle.demands.specs.CallContracts.{fresh, check, update, meet, compare, lend_number, list, check_record, compare_records, meet_records, read_rows, write_rows}
 use Rattle.demands.specs.Counted.{by_numbers, accepted_of, vectors_after, table_after}
-use Rattle.demands.specs.Demands.{Obeys, demand_1, Demand3, demand_3}
-use Rattle.demands.specs.Empty.{ShutOut, shut_out}
-use Rattle.demands.specs.Lived.{buffer, lived_from, from_run}
+use Rattle.demands.specs.Demands.{Demand3}
+use Rattle.demands.specs.Lived.{buffer}
 
 -- The function that serves a call of each name.
 abbrev pub service_of : Lfts 2 → Name → Service
@@ -35,37 +34,9 @@ service_of κs MeetRecords = meet_records κs
 service_of κs ReadRows = read_rows (κs.0, tt)
 service_of κs WriteRows = write_rows (κs.0, tt)
 
-pub every_serves : (κs : Lfts 2) (c : Name) → Serves (service_of κs c)
-every_serves κs Fresh = fresh_serves (κs.0, tt)
-every_serves κs Check = check_serves (κs.0, tt)
-every_serves κs Update = update_serves (κs.0, tt)
-every_serves κs Meet = meet_serves (κs.0, tt)
-every_serves κs Compare = compare_serves (κs.0, tt)
-every_serves κs Lend = lend_number_serves (κs.0, tt)
-every_serves κs Superfluous = list_serves (κs.0, tt)
-every_serves κs CheckRecord = check_record_serves (κs.0, tt)
-every_serves κs CompareRecords = compare_records_serves κs
-every_serves κs MeetRecords = meet_records_serves κs
-every_serves κs ReadRows = read_rows_serves (κs.0, tt)
-every_serves κs WriteRows = write_rows_serves (κs.0, tt)
-
 -- Every outcome is one that the promise of the function called allows.
 abbrev pub Library : Version → Type 0
 Library v = (k : ℕ) (q : Asked) → (κs : Lfts 2) × Allows (service_of κs (name_of q)) q (v k q)
-
-pub library_meets : (v : Version) → Library v → Meets v
-library_meets v l k q = let (κs, e) = l k q in allowed_owed (service_of κs (name_of q)) (every_serves κs (name_of q)) e
-
--- ---- Demand 1, and the empty versions
-
--- Every call of the library answers or refuses as demand 1 has it.
-pub library_obeys : (v : Version) → Library v → (k : ℕ) (q : Asked) → Roomy q
-    → Obeys (numbers_of q) (rows_of q) (v k q).said (own_of q) (lent_to q) (v k q).lent
-library_obeys v lib k q i = let m = library_meets v lib k q in rw (m.answers, m.bytes) (demand_1.every_call q i)
-
--- It is none of document 01's empty versions.
-pub library_real : (v : Version) → Library v → ShutOut v
-library_real v lib = shut_out v (library_meets v lib)
 
 -- ---- Demand 3, lived
 
@@ -87,7 +58,7 @@ pub record Lives (v : Version) (n : ℕ) (l : List Call) (h : Run) : Type 0 wher
   pub unseen : (k p c : ℕ) → p < n → c < n
       → is_in (head (table_rows n (buffer (v k (Asked.update h.table p)).lent) p p p)) (table_rows n h.table c p c) ≡ false
 
-lives : (v : Version) → Meets v → (n : ℕ) (b : List ℕ) (l : List Call) → Demand3 n b l → Lives v n l (run_bytes (fresh_leaves b n) l)
+pub lives : (v : Version) → Meets v → (n : ℕ) (b : List ℕ) (l : List Call) → Demand3 n b l → Lives v n l (run_bytes (fresh_leaves b n) l)
 lives v m n b l d =
     record {
       answers = d.answers;
@@ -99,11 +70,3 @@ lives v m n b l d =
       lists = λ k. (m k (Asked.superfluous (table_after n b l))).answers ∙ d.lists;
       unseen = λ k p c hp hc. rw (ap buffer (m k (Asked.update (table_after n b l) p)).bytes) (d.unseen p c hp hc);
     }
-
--- From a fresh table of n copies, N from 2 to 8, made by the first call.
-pub library_lives : (v : Version) → Library v → (n : ℕ) → 2 ≤ n → n ≤ 8 → (b : List ℕ) → length b ≡ table_size n → (l : List Call)
-    → ((v 0 (Asked.fresh b n)).said ≡ done) × Lives v n l (lived_from v n b l)
-library_lives v lib n low high b room l =
-    let m = library_meets v lib in
-    let d = demand_3 n low high b room l in
-    ((m 0 (Asked.fresh b n)).answers ∙ d.fresh, rw (from_run v m n b l) (lives v m n b l d))

@@ -12,7 +12,7 @@ use Rattle.model.specs.Bytes.{copies_in, table_rows}
 use Rattle.model.specs.Calls.{copy_order, compare_says, superfluous_reasons, superfluous_mask_of, superfluous_says}
 use Rattle.model.specs.declared.Order.{Order}
 use Rattle.model.specs.declared.Order.TheVariants.{Equal, Newer}
-use Rattle.facts.specs.Cases.{by_eq, by_lt, by_test, clash, cond_true, cond_false}
+use Rattle.facts.specs.Cases.{by_eq, by_lt, by_test, clash}
 use Rattle.facts.specs.Numbers.{count_same}
 use Rattle.laws.specs.WellFormed.{WellTable, table_copies}
 use Rattle.laws.specs.Reasons.{First, is_own, answer-accepted}
@@ -20,7 +20,7 @@ use Rattle.laws.specs.Grounds.{SomeUnrelated, CopiesUnrelated, table_grounds, su
 use Rattle.laws.specs.Refusals.{superfluous_ruled}
 use Rattle.laws.specs.Accepted.{→table_none, →superfluous_accepted}
 use Rattle.laws.specs.Mirror.{mirrored_order, unrelated-mirrored, comparison-mirrored}
-use Rattle.laws.specs.Superfluous.{Covered, superfluous→, →superfluous, mask_below, mask_ones, mask_bit}
+use Rattle.laws.specs.Superfluous.{Covered, mask_below, mask_ones, mask_bit}
 use Rattle.demands.specs.Behind.{first_behind, behind_first}
 use Rattle.demands.specs.OnTables.{compare_related, compare-unrelated, compare_itself}
 
@@ -97,7 +97,7 @@ module _ {n : ℕ} {t : List ℕ} (w : WellTable n t) where
       order_is = rw (table_copies w)
 
       -- The other's comparison, read from this copy's side.
-      covered→ : Covered (copy_order t i j) → EqualOrNewer t j i
+      pub covered→ : Covered (copy_order t i j) → EqualOrNewer t j i
       covered→ c =
           let m = comparison-mirrored n i j (table_rows n t i) (table_rows n t j) in
           ⊎_elim
@@ -105,7 +105,7 @@ module _ {n : ℕ} {t : List ℕ} (w : WellTable n t) where
           (λ q. inr (says ∙ ap (λ (o : Order). ordered (number_of_order o)) (m ∙ ap mirrored_order (sym order_is ∙ q))))
           c
 
-      →covered : EqualOrNewer t j i → Covered (copy_order t i j)
+      pub →covered : EqualOrNewer t j i → Covered (copy_order t i j)
       →covered c =
           let m = comparison-mirrored n j i (table_rows n t j) (table_rows n t i) in
           ⊎_elim
@@ -117,22 +117,8 @@ module _ {n : ℕ} {t : List ℕ} (w : WellTable n t) where
     unfolding superfluous_mask_of
     mask_is = rw (table_copies w)
 
-    bit_is : (i : ℕ) → i < n → superfluous_mask_of t / 2 ^ i % 2 ≡ cond (is_superfluous n (copy_order t) i) 1 0
+    pub bit_is : (i : ℕ) → i < n → superfluous_mask_of t / 2 ^ i % 2 ≡ cond (is_superfluous n (copy_order t) i) 1 0
     bit_is i h = rw mask_is (mask_bit n (is_superfluous n (copy_order t)) i h)
-
-    own_bit : (i : ℕ) → i < n → (superfluous_mask_of t / 2 ^ i % 2 ≡ 1) ↔ ((j : ℕ) × (j < n) × (j ≡ i → ⊥) × EqualOrNewer t j i)
-    own_bit i hi = (to, from)
-      where
-        to : superfluous_mask_of t / 2 ^ i % 2 ≡ 1 → (j : ℕ) × (j < n) × (j ≡ i → ⊥) × EqualOrNewer t j i
-        to b =
-            by_test (is_superfluous n (copy_order t) i)
-            (λ s. let (j, hj, ne, c) = superfluous→ n (copy_order t) i s in (j, hj, ne, covered→ i j hi hj ne c))
-            (λ s. let z : superfluous_mask_of t / 2 ^ i % 2 ≡ 0 = bit_is i hi ∙ cond_false 1 0 s in absurd (omega arith))
-
-        from : (j : ℕ) × (j < n) × (j ≡ i → ⊥) × EqualOrNewer t j i → superfluous_mask_of t / 2 ^ i % 2 ≡ 1
-        from q =
-            let (j, hj, ne, c) = q in
-            bit_is i hi ∙ cond_true 1 0 (→superfluous n (copy_order t) i j hj ne (→covered i j hi hj ne c))
 
     own-count : ones (superfluous_mask_of t) ≡ count n (λ i. eqb (superfluous_mask_of t / 2 ^ i % 2) 1)
     own-count =
@@ -144,7 +130,7 @@ module _ {n : ℕ} {t : List ℕ} (w : WellTable n t) where
         (λ s. rw (bit_is i h, s)))
 
   -- What it answers is the mask and the number of its ones.
-  own-list : (m c : ℕ) → superfluous_says t ≡ listed m c → (superfluous_says t ≡ listed (superfluous_mask_of t) (ones (superfluous_mask_of t))) × (superfluous_mask_of t ≡ m) × (ones (superfluous_mask_of t) ≡ c)
+  pub own-list : (m c : ℕ) → superfluous_says t ≡ listed m c → (superfluous_says t ≡ listed (superfluous_mask_of t) (ones (superfluous_mask_of t))) × (superfluous_mask_of t ≡ m) × (ones (superfluous_mask_of t) ≡ c)
   own-list m c e =
       ⊎_elim
       (λ s. let q : listed (superfluous_mask_of t) (ones (superfluous_mask_of t)) ≡ listed m c = sym s ∙ e in (s, same_mask q, same_count q))
@@ -158,9 +144,6 @@ module _ {n : ℕ} {t : List ℕ} (w : WellTable n t) where
       same_count q = cc
 
   module _ (m c : ℕ) (e : superfluous_says t ≡ listed m c) where
-    pub list_bit : (i : ℕ) → i < n → (m / 2 ^ i % 2 ≡ 1) ↔ ((j : ℕ) × (j < n) × (j ≡ i → ⊥) × EqualOrNewer t j i)
-    list_bit i h = let q = own-list m c e in rw q.1 at (own_bit q.0 i h)
-
     pub list_below : m < 2 ^ n
     list_below = let q = own-list m c e in rw (sym q.1 ∙ mask_is q.0) (mask_below n (is_superfluous n (copy_order t)))
 

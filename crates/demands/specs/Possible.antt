@@ -1,9 +1,10 @@
 -- The promises can be kept together: for every call there are arguments, a result and parameters at exit that the function's own promise
--- allows, with the outcome definition's outcome. So what is said of a library in Library is not said of nothing. Assumes nothing.
+-- allows, with the outcome definition's outcome. So what is said of a library in Library is not said of nothing
+-- (`library_possible`, in proofs/Possible). Assumes nothing.
 use Rattle.std.specs.Prelude.{◌≡◌, refl, ◌⊎◌, Bool, true, List, [], ◌∷◌, ℕ, length, get_or, eqb}
 use Rattle.std.proofs.Common.{sym, ap, ◌∙◌, inl, inr, eqb-true}
 use contract.Lifetimes.{Lfts}
-use Rattle.std.specs.Borrow.{Bor}
+use Rattle.std.specs.Borrow.{Bor, MutBor}
 use Rattle.model.specs.Tests.{every}
 use Rattle.model.specs.Steps.{comparison}
 use Rattle.model.specs.Answers.{Said, refused, done, ordered, listed, answer, number_of_refusal, number_of_order, said_done, said_compared, said_listed}
@@ -22,7 +23,7 @@ use Rattle.demands.specs.Asked.{Asked, Roomy, fresh, check, update, meet, compar
 use Rattle.demands.specs.Obeyed.{call_ruled, call_numbers}
 use Rattle.demands.specs.Versions.{name_of}
 use Rattle.demands.specs.Serves.{Allows}
-use Rattle.demands.specs.Library.{service_of, Library}
+use Rattle.demands.specs.Library.{service_of}
 
 -- ---- Every answer of a call can be said by its enum
 
@@ -85,27 +86,30 @@ as_listed : {says : Said} {m c : ℕ} → Sayable says (listed m c) → (d : Lis
 as_listed {m = m} {c = c} (inl e) = (Listed.Copies m c, sym e)
 as_listed (inr w) = (Listed.Refused w.0, w.1)
 
--- ---- A reference to bytes, with some place and some name
+-- ---- A reference to bytes, with some place and, where they are lent to be written, some name
 
 at : List ℕ → Bor (List ℕ)
 at l = record { ref_ptr = (0, 0); now = l }
 
+lent_at : List ℕ → MutBor (List ℕ)
+lent_at l = record { ref_ptr = (0, 0); ghost_name = 0; now = l }
+
 -- ---- Every call
 
-allowed : (κs : Lfts 2) (q : Asked) → Allows (service_of κs (name_of q)) q (record { said = says_of q; lent = left_by q })
-unfolding at
+pub allowed : (κs : Lfts 2) (q : Asked) → Allows (service_of κs (name_of q)) q (record { said = says_of q; lent = left_by q })
+unfolding at lent_at
 allowed κs (fresh t n) =
     let d = as_done (sayable (fresh t n)) in
-    record { arguments = (at t, (n, tt)); result = d.0; exit = (at (fresh_leaves t n), (n, tt)); learnt = record { answers = d.1; bytes = refl }; asks = refl; says = d.1; leaves = refl }
+    record { arguments = (lent_at t, (n, tt)); result = d.0; exit = (lent_at (fresh_leaves t n), (n, tt)); learnt = record { answers = d.1; bytes = refl }; asks = refl; says = d.1; leaves = refl }
 allowed κs (check t) =
     let d = as_done (sayable (check t)) in
     record { arguments = (at t, tt); result = d.0; exit = (at t, tt); learnt = record { answers = d.1; bytes = refl }; asks = refl; says = d.1; leaves = refl }
 allowed κs (update t p) =
     let d = as_done (sayable (update t p)) in
-    record { arguments = (at t, (p, tt)); result = d.0; exit = (at (update_leaves t p), (p, tt)); learnt = record { answers = d.1; bytes = refl }; asks = refl; says = d.1; leaves = refl }
+    record { arguments = (lent_at t, (p, tt)); result = d.0; exit = (lent_at (update_leaves t p), (p, tt)); learnt = record { answers = d.1; bytes = refl }; asks = refl; says = d.1; leaves = refl }
 allowed κs (meet t a b) =
     let d = as_done (sayable (meet t a b)) in
-    record { arguments = (at t, (a, (b, tt))); result = d.0; exit = (at (meet_leaves t a b), (a, (b, tt))); learnt = record { answers = d.1; bytes = refl }; asks = refl; says = d.1; leaves = refl }
+    record { arguments = (lent_at t, (a, (b, tt))); result = d.0; exit = (lent_at (meet_leaves t a b), (a, (b, tt))); learnt = record { answers = d.1; bytes = refl }; asks = refl; says = d.1; leaves = refl }
 allowed κs (compare t a b) =
     let d = as_compared (copy_order t a b) (sayable (compare t a b)) in
     record { arguments = (at t, (a, (b, tt))); result = d.0; exit = (at t, (a, (b, tt))); learnt = record { answers = d.1; bytes = refl }; asks = refl; says = d.1; leaves = refl }
@@ -123,14 +127,10 @@ allowed κs (compare_records a b) =
     record { arguments = (at a, (at b, tt)); result = d.0; exit = (at a, (at b, tt)); learnt = record { answers = d.1; bytes = refl }; asks = refl; says = d.1; leaves = refl }
 allowed κs (meet_records a b) =
     let d = as_done (sayable (meet_records a b)) in
-    record { arguments = (at a, (at b, tt)); result = d.0; exit = (at (meet_records_leaves_first a b), (at (meet_records_leaves_second a b), tt)); learnt = record { answers = d.1; bytes = refl }; asks = refl; says = d.1; leaves = refl }
+    record { arguments = (lent_at a, (lent_at b, tt)); result = d.0; exit = (lent_at (meet_records_leaves_first a b), (lent_at (meet_records_leaves_second a b), tt)); learnt = record { answers = d.1; bytes = refl }; asks = refl; says = d.1; leaves = refl }
 allowed κs (read_rows r) =
     let d = as_done (sayable (read_rows r)) in
     record { arguments = (at r, tt); result = record { answer = d.0; rows = read_gives r }; exit = (at r, tt); learnt = record { answers = d.1; rows = refl }; asks = refl; says = d.1; leaves = refl }
 allowed κs (write_rows b x) =
     let d = as_done (sayable (write_rows b x)) in
-    record { arguments = (at b, (x, tt)); result = d.0; exit = (at (write_leaves b x), (x, tt)); learnt = record { answers = d.1; bytes = refl }; asks = refl; says = d.1; leaves = refl }
-
--- The version that gives the outcome definitions is such a library, whatever lifetimes are taken.
-pub library_possible : Lfts 2 → Library (λ k q. record { said = says_of q; lent = left_by q })
-library_possible κs k q = (κs, allowed κs q)
+    record { arguments = (lent_at b, (x, tt)); result = d.0; exit = (lent_at (write_leaves b x), (x, tt)); learnt = record { answers = d.1; bytes = refl }; asks = refl; says = d.1; leaves = refl }

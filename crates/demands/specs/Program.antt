@@ -1,5 +1,5 @@
--- The program's functions by their own contracts, as the sources have them (`Learnt`, as in Contracts): what the desk writes for an input
--- is document 01's output text, and no two outcomes satisfy a promise. Assumes nothing.
+-- The program's functions by their own contracts, as the sources have them (`Learnt`, as in CallContracts): what the desk writes for an
+-- input is document 01's output text, and no two outcomes satisfy a promise. Assumes nothing.
 use Rattle.std.specs.Prelude.{◌≡◌, List, ℕ}
 use Rattle.std.proofs.Common.{sym, ◌∙◌}
 use contract.Lifetimes.{Lfts}

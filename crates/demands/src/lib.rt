@@ -1,2 +1,2 @@
-// The three demands of document 01, stated about what the calls promise: theorems in specs/, this crate has no code.
+// The three demands of document 01, stated about what the calls promise: theorems in specs/ and proofs/, this crate has no code.
 #![tactic(auto)]
