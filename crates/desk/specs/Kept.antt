@@ -7,7 +7,7 @@ use borrow.Author.Tests.{le-leb, lt-leb, eq-eqb}
 use Rattle.std.proofs.Math.ListN.{take}
 use Rattle.std.proofs.lemmas.List.{length-replicate}
 use Rattle.model.specs.Steps.{fresh_rows}
-use Rattle.model.specs.Answers.{Said, answer, accepted, leave}
+use Rattle.model.specs.Answers.{Said, accepted, leave}
 use Rattle.model.specs.Bytes.{table_size, record_size, is_in_range, table_bytes}
 use Rattle.model.specs.Calls.{fresh_reasons, fresh_says, fresh_leaves}
 use Rattle.model.specs.Promises.{Owed}
