@@ -39,11 +39,11 @@ demand_2 =
       compare_itself = compare_itself;
       kept = λ {n} {t} w c. keeps n t c w;
       depends = λ {n} {t} {u} w v. record {
-        update_says_lem = update_says_same n t u w v;
+        update-says = update_says_same n t u w v;
         update-bytes = update-bytes_same n t u w v;
-        meet_says_lem = meet_says_same n t u w v;
+        meet-says = meet_says_same n t u w v;
         meet-bytes = meet-bytes_same n t u w v;
-        compare_says_lem = compare_says_same n t u w v;
+        compare-says = compare_says_same n t u w v;
       };
       lend = lend_done;
       list = λ w. record {

@@ -88,12 +88,12 @@ pub record Met (n : ℕ) (t : List ℕ) (a b : ℕ) : Type 0 where
 -- 'the answer of update, meeting and comparison, and the named records' bytes after it, depend only on N, the numbers given and the
 -- named records': t and u are well-formed tables of the same N, and may differ in every other record. Refusals too.
 pub record Depends (n : ℕ) (t u : List ℕ) : Type 0 where
-  pub update_says_lem : (p : ℕ) → update_says t p ≡ update_says u p
+  pub update-says : (p : ℕ) → update_says t p ≡ update_says u p
   pub update-bytes : (p : ℕ) → record_in n t p ≡ record_in n u p → record_in n (update_leaves t p) p ≡ record_in n (update_leaves u p) p
-  pub meet_says_lem : (a b : ℕ) → record_in n t a ≡ record_in n u a → record_in n t b ≡ record_in n u b → meet_says t a b ≡ meet_says u a b
+  pub meet-says : (a b : ℕ) → record_in n t a ≡ record_in n u a → record_in n t b ≡ record_in n u b → meet_says t a b ≡ meet_says u a b
   pub meet-bytes : (a b : ℕ) → record_in n t a ≡ record_in n u a → record_in n t b ≡ record_in n u b
       → (record_in n (meet_leaves t a b) a ≡ record_in n (meet_leaves u a b) a) × (record_in n (meet_leaves t a b) b ≡ record_in n (meet_leaves u a b) b)
-  pub compare_says_lem : (a b : ℕ) → record_in n t a ≡ record_in n u a → record_in n t b ≡ record_in n u b → compare_says t a b ≡ compare_says u a b
+  pub compare-says : (a b : ℕ) → record_in n t a ≡ record_in n u a → record_in n t b ≡ record_in n u b → compare_says t a b ≡ compare_says u a b
 
 -- 'the list of superfluous copies follows from the comparisons by its rule.'
 pub record Listing (n : ℕ) (t : List ℕ) : Type 0 where
