@@ -1,8 +1,9 @@
 #!/usr/bin/env python3
 """lines.py: for each crate of crates.txt the functions, and the lines of code, definitions, laws and answers, as rows of a table. Blank
 lines, comments, `use` and `mod` lines count nowhere; contracts (requires, ensures) are counted by themselves. Definitions are the
-abbrev, unfoldable, record and data items of specs/ and proofs/, answers the files proofs/FUNCTION/Proof.antt, laws all else. The last
-column is the seconds of the crate's check in the last run of the gate, from target/gate (none where it did not run here)."""
+abbrev, unfoldable, record and data items of specs/ and proofs/, answers the files proofs/FUNCTION/Invariants.antt and
+Answers.antt, laws all else. The last column is the seconds of the crate's check in the last run of the gate, from target/gate (none where it
+did not run here, or said none)."""
 import pathlib
 import re
 
@@ -12,9 +13,9 @@ def code(files):
     for f in files:
         for line in f.read_text().split("\n"):
             text = line.strip()
-            if not text or text.startswith(("//", "use ", "ghost use ", "mod ", "pub mod ")):
+            if not text or text.startswith(("//", "#![", "use ", "ghost use ", "mod ", "pub mod ")):
                 continue
-            if text.startswith(("requires", "ensures", "×", "(cond", "(winning", "(r .ptr")):
+            if text.startswith(("requires", "ensures", "×", "(cond", "(winning", "result.ref_ptr")):
                 contracts += 1
                 continue
             functions += bool(re.match(r"(pub )?(extern \"C\" )?fn ", text))
@@ -57,7 +58,7 @@ def seconds(name):
     return found.group(1) if found else ""
 
 
-names = [line.split(":")[0].strip() for line in pathlib.Path("crates.txt").read_text().split("\n") if ":" in line and not line.startswith("#")]
+names = [line.split(":")[0].split()[0] for line in pathlib.Path("crates.txt").read_text().split("\n") if ":" in line and not line.startswith("#")]
 total = [0] * 6
 print("| crate | functions | code | contracts | definitions | laws | answers | check, s |")
 print("|---|---|---|---|---|---|---|---|")
@@ -65,8 +66,8 @@ for name in names:
     crate = pathlib.Path("crates") / name
     row = [*code(sorted(crate.glob("src/**/*.rt")))]
     proofs = sorted(crate.glob("proofs/**/*.antt"))
-    answers = [f for f in proofs if f.name == "Proof.antt"]
-    row += theory(sorted(crate.glob("specs/**/*.antt")) + [f for f in proofs if f.name != "Proof.antt"])
+    answers = [f for f in proofs if f.name in ("Answers.antt", "Invariants.antt")]
+    row += theory(sorted(crate.glob("specs/**/*.antt")) + [f for f in proofs if f not in answers])
     row.append(plain_lines(answers))
     total = [a + b for a, b in zip(total, row)]
     print(f"| `{name}` | " + " | ".join(map(str, row)) + f" | {seconds(name)} |")

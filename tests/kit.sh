@@ -1,5 +1,5 @@
-# For the scripts beside it: C over the proved library, by the kit's own compiler, linker and loader, so that one way serves both kinds
-# of machine. Programs are for x86-64; on another processor the kit's emulator runs them. Sourced from the repository's root.
+# For the scripts beside it: C over the proved library, by the kit's own compiler, linker and loader, for x86-64. Sourced from the
+# repository's root.
 kit=$(dirname "$(rt doc)")
 kit_tools=$kit/toolchain
 c_out=target/c
@@ -35,7 +35,6 @@ c_program() {
 # c_command NAME: the words that run it, in `c_words`
 c_command() {
   c_words=("$kit_tools/lib/ld-linux-x86-64.so.2" --library-path "$kit_tools/lib" "$c_out/$1")
-  [ ! -x "$kit_tools/bin/qemu-x86_64" ] || c_words=("$kit_tools/bin/qemu-x86_64" "${c_words[@]}")
 }
 
 mkdir -p "$c_out"
