@@ -105,11 +105,11 @@ module _ {n : ℕ} {before after : List ℕ} {said : Said} (long : length before
       reasons_same n (take (size_with_n 0 n) before) (replicate (size_with_n 0 n) 0)
       (length-take-le (size_with_n 0 n) before (omega (arith, r.fits)) ∙ sym (length-replicate {0} {A = ℕ} (size_with_n 0 n) 0))
 
-  renewed_says : said ≡ call_says (take size before) (Fresh n)
+  pub renewed_says : said ≡ call_says (take size before) (Fresh n)
   unfolding call_says fresh_says
   renewed_says = r.says ∙ rw room_same
 
-  renewed_leaves : take (size_with_n size n) after ≡ call_leaves (take size before) (Fresh n)
+  pub renewed_leaves : take (size_with_n size n) after ≡ call_leaves (take size before) (Fresh n)
   unfolding call_leaves fresh_leaves leave
   renewed_leaves = go (is_in_range n) refl
     where
@@ -123,6 +123,3 @@ module _ {n : ℕ} {before after : List ℕ} {said : Said} (long : length before
           let none : size_with_n 0 n ≡ 0 = unfold size_with_n in rw e in
           let kept : size_with_n size n ≡ size = unfold size_with_n in rw e in
           rw (kept, room_accepts n, e) (ap (take size) (rw none at r.rest))
-
-  pub renewed_kept : Kept size (Fresh n) before after said
-  renewed_kept = record { says = renewed_says; leaves = renewed_leaves }

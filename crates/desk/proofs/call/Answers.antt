@@ -4,7 +4,8 @@ use Prim.Native.Nat.{◌≤◌}
 use native.Mathlib.Omega.{arith}
 use lib.ListN.{length}
 use Rattle.desk.specs.Desk.{call_says, call_leaves}
-use Rattle.desk.specs.Kept.{lent_front, renewed_kept}
+use Rattle.desk.specs.Kept.{lent_front}
+use Rattle.desk.proofs.Kept.{renewed_kept}
 use Rattle.desk.proofs.call.Goals as goal
 
 pub returns-in-Fresh : goal.returns-in-Fresh
