@@ -1,8 +1,6 @@
 -- `table::list_checked` meets its contract: the mask, and the machine's count of its ones. Assumes nothing.
 use native.Mathlib.Omega.{arith}
 use mathlib.Core.Path.{sym, ◌∙◌}
-use Prim.Native.Nat.{◌<◌, ◌^◌}
-use lib.Count.{ones-le}
 use Rattle.model.specs.Bytes.{copies_in}
 use Rattle.table.specs.Checked.{table_shown, well_long}
 use Rattle.table.specs.Listing.{listing_refused, listing_mask}
@@ -20,12 +18,6 @@ unfolding copies_in
 returns-in_default c =
     let a = c.args in
     listing_refused a.t.now (sym c.in_default.is ∙ c.superfluous_mask-m.ensures)
-
-pub overflow_cast-result : goal.overflow_cast-result
-overflow_cast-result c =
-    let m = c.in-Mask.mask in
-    let low : m < 2 ^ 8 = omega arith in
-    omega (arith, ones-le 8 m low)
 
 pub returns : goal.returns
 unfolding copies_in
