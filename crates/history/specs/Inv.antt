@@ -1,13 +1,13 @@
 -- The invariant of one slice with primary p: how the rows st a k (row k of record a) and the counters vv a of the unbounded vectors
--- stand to a history; and what it says of heads, of principal rows and of the symbols that the primary's record holds.
--- Assumes nothing.
+-- stand to a history; and what it says of heads, of principal rows and of the symbols that the primary's record holds (the last in
+-- proofs/Inv.antt). Assumes nothing.
 use Rattle.std.specs.Prelude.{◌≡◌, refl, Bool, true, List, ℕ, suc, ◌≤◌, ◌<◌, eqb}
 use Rattle.std.proofs.Common.{sym, ap, ◌∙◌, arith, eq-eqb, eqb-true}
 use Rattle.model.specs.Tests.{any, head}
 use Rattle.facts.specs.Cases.{agree}
 use Rattle.facts.specs.Numbers.{any→, →any}
 use Rattle.facts.specs.Members.{In}
-use Rattle.history.specs.Hist.{Hist, Below, Occurs, le_self, own, known, chain, count, joined, cover, kept}
+use Rattle.history.specs.Hist.{Hist, Below, Occurs, own, known, chain, count}
 use Rattle.history.specs.Listed.{listed, listed_first, →listed, listed→}
 use Rattle.history.specs.Next.{Latest}
 
@@ -73,10 +73,10 @@ module _ {N p m : ℕ} {E : ℕ → ℕ → ℕ} {C : ℕ → ℕ} (sy : ℕ →
   head_row : head (row_at N E C sy s) ≡ sy (C s)
   head_row = ap head (listed_first sy (among N (vector E C s)) (C s) own-among)
 
-  row→ : (x : ℕ) → In x (row_at N E C sy s) → (v : ℕ) × Occurs N E C s v × (sy v ≡ x)
+  pub row→ : (x : ℕ) → In x (row_at N E C sy s) → (v : ℕ) × Occurs N E C s v × (sy v ≡ x)
   row→ x i = let (v, lv, e, q) = listed→ sy (among N (vector E C s)) (suc (C s)) x i in (v, among→ (vector E C s) e, q)
 
-  →row : (v : ℕ) → Occurs N E C s v → In (sy v) (row_at N E C sy s)
+  pub →row : (v : ℕ) → Occurs N E C s v → In (sy v) (row_at N E C sy s)
   →row v (k, k_n, e) =
       →listed sy (among N (vector E C s)) (suc (C s)) v (omega (arith, (known h s k ls).counts)) (→among (vector E C s) (k, k_n, e))
 
@@ -125,23 +125,3 @@ module _ {N p : ℕ} {st : ℕ → ℕ → List ℕ} {vv : ℕ → ℕ} {m : ℕ
   ahead→ a b a_n b_n i =
       let (j, j_n, o) = found→ a a b a_n a_n b_n i in
       omega (arith, (known I.hist (L b) j (lt b b_n)).counts, own_value a a_n)
-
-  pub →ahead : (a b : ℕ) → a < N → b < N → C (L a) ≤ C (L b) → In (head (st a a)) (st b b)
-  →ahead a b a_n b_n le =
-      let al : Latest m E a (L a) = I.last a a_n in
-      let bl : Below E C (E (L b) a) (L a) = chain I.hist a (E (L b) a) (L a) al.before (own I.hist (L b) a (lt b b_n)) al.own (al.last (L b) (lt b b_n)) in
-      let o : Occurs N E C (L b) (C (E (L a) a)) = joined I.hist (L a) (L b) a (lt a a_n) (lt b b_n) a_n le (omega (arith, own_value a a_n, bl.counts)) in
-      rw (head_is a a a_n a_n) (→found b (C (E (L a) a)) b_n o)
-
-  -- Every symbol of a principal row stands in some row of the primary's record: what is free there is free everywhere.
-  pub in_primary : (a x : ℕ) → a < N → In x (st a a) → (c : ℕ) × (c < N) × In x (st p c)
-  in_primary a x a_n i =
-      let h = I.hist in
-      let p_n = I.primary in
-      let (v, o, q) = row→ sy p_n h (L a) (lt a a_n) x (rw (I.principal a a_n) at i) in
-      let (c, c_n, cov) = kept h a (L a) (L p) a_n (lt a a_n) (lt p p_n) (I.last a a_n).own ((I.last a a_n).last (L p) (lt p p_n)) (top (L a) (lt a a_n)) in
-      let r : Cached N m E C sy (st p c) (L p) c = I.cached p c p_n c_n in
-      let lc : E (L p) c < m = omega (arith, le_self h (L p) c (lt p p_n), lt p p_n) in
-      let b : Below E C r.event (E (L p) c) = chain h c r.event (E (L p) c) lc r.own (own h (L p) c (lt p p_n)) r.known in
-      let u : Occurs N E C r.event v = cover h r.event (E (L p) c) r.before lc b r.same v (cov v o) in
-      (c, c_n, rw (r.row, ← q) (→row sy p_n h r.event r.before v u))

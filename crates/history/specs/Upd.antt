@@ -1,6 +1,6 @@
 -- The update step of one slice at its primary p. Of the new symbol x it is asked only that it stands in no row of the primary's
--- record; that it then stands in no copy's principal row is what makes reuse safe. Assumes nothing.
-use Rattle.std.specs.Prelude.{◌≡◌, refl, ◌⊎◌, Bool, false, cond, ◌&&◌, List, ◌∷◌}
+-- record; that it then stands in no copy's principal row is what makes reuse safe (proofs/Upd.antt). Assumes nothing.
+use Rattle.std.specs.Prelude.{◌≡◌, refl, ◌⊎◌, Bool, false, ◌&&◌, List, ◌∷◌}
 use Rattle.std.proofs.Common.{sym, ap₂, ◌∙◌, inl, inr, ⊎_elim, arith, eq-eqb, ne_eqb}
 use Rattle.std.proofs.Math.Path.{ap}
 use Rattle.std.proofs.Math.Bool.{true, not}
@@ -14,8 +14,8 @@ use Rattle.facts.specs.Members.{In}
 use Rattle.laws.specs.MeetingKept.{is_named→, →is_named}
 use Rattle.history.specs.Hist.{Occurs, le_self}
 use Rattle.history.specs.Listed.{listed, listed_first, listed_same, keep_listed}
-use Rattle.history.specs.Next.{Pair, Next, next, knows_next, counts_next, latest_next, here_value, away_value}
-use Rattle.history.specs.Inv.{Inv, Good, Cached, Live, row_at, vector, among, among→, →among, lt, symbols_tell, head_is, →found, top, in_primary}
+use Rattle.history.specs.Next.{Next, here_value, away_value}
+use Rattle.history.specs.Inv.{Inv, Cached, Live, row_at, vector, among, among→, →among, lt, symbols_tell, head_is, →found, top}
 use Rattle.history.specs.Step.{held_cached, own-cached, live_next, stepped}
 
 -- Rows st' come from rows st by an update of copy p with the new symbol x.
@@ -24,18 +24,6 @@ pub record Upd (N p x : ℕ) (st st' : ℕ → ℕ → List ℕ) : Type 0 where
   pub row : st' p p ≡ x ∷ keep (head_of_other N p (st p)) (st p p)
   pub rest : (k : ℕ) → (k ≡ p → ⊥) → k < N → st' p k ≡ st p k
   pub other : (c k : ℕ) → (c ≡ p → ⊥) → c < N → k < N → st' c k ≡ st c k
-
--- A symbol that stands in no row of the primary's record stands in no copy's principal row.
-pub unused :
-    {N p : ℕ} {st : ℕ → ℕ → List ℕ} {vv : ℕ → ℕ}
-    → Good N p st vv
-    → (x : ℕ)
-    → ((k : ℕ) → k < N → In x (st p k) → ⊥)
-    → (a : ℕ)
-    → a < N
-    → In x (st a a)
-    → ⊥
-unused g x free a a_n i = let (c, c_n, j) = in_primary g.inv a x a_n i in free c c_n j
 
 -- One copy named twice.
 only : (p k : ℕ) → is_named p p k ≡ true → k ≡ p
@@ -117,7 +105,7 @@ module _
       go (inr a) (inl b) = absurd (not_new y a (sym (old_symbol y a) ∙ e ∙ ap sy' b ∙ given))
       go (inr a) (inr b) = I.distinct y z a b (sym (old_symbol y a) ∙ e ∙ old_symbol z b)
 
-  upd_inv :
+  pub upd_inv :
       {vv' : ℕ → ℕ}
       → vv' p ≡ suc (vv p)
       → ((a : ℕ) → (a ≡ p → ⊥) → a < N → vv' a ≡ vv a)
@@ -140,28 +128,3 @@ module _
           (λ e. own-cached I nx spoken (st' p k) k (→is_named p p k (inl e)) (rw e new_row))
           (λ ne. rw (u.rest k ne k_n)
           (held_cached I nx spoken (st p k) p k (→is_named p p p (inl refl)) I.primary (I.cached p k I.primary k_n) (sym (away k ne))))
-
--- An update keeps the invariant; the primary counts one more.
-pub update_good :
-    {N p x : ℕ} {st st' : ℕ → ℕ → List ℕ} {vv vv' : ℕ → ℕ}
-    → Good N p st vv
-    → Upd N p x st st'
-    → vv' p ≡ suc (vv p)
-    → ((a : ℕ) → (a ≡ p → ⊥) → a < N → vv' a ≡ vv a)
-    → Good N p st' vv'
-update_good {N} {p} {x} g u counted uncounted =
-    let I = g.inv in
-    let c : ℕ = suc (g.C (g.L p)) in
-    let pair : Pair N p p p c g.C g.L = record { first = I.primary; second = I.primary; less = omega arith; counts = inr (refl, refl) } in
-    record {
-      m = suc g.m;
-      E = knows_next g.m p p c g.E g.C g.L;
-      C = counts_next g.m p p c g.E g.C g.L;
-      L = latest_next g.m p p c g.E g.C g.L;
-      sy = λ v. cond (eqb v c) x (g.sy v);
-      inv =
-          upd_inv I (next g.m p p c g.E g.C g.L pair)
-          (λ v h. rw (ne_eqb v c (omega arith)))
-          (rw (eq-eqb c c refl))
-          u (unused g x u.free) counted uncounted;
-    }

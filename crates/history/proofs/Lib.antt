@@ -1,0 +1,9 @@
+pub mod Hist
+pub mod Inv
+pub mod Meet
+pub mod Upd
+pub mod Answer
+pub mod Slice
+pub mod Table
+pub mod View
+pub mod Demand
