@@ -29,7 +29,8 @@ use Rattle.laws.specs.Accepted.{→table_accepted, →fresh-accepted, →lend_ac
 use Rattle.laws.specs.Leaves.{fresh_leaves_lem, fresh_well, update_rows}
 use Rattle.laws.specs.Depends.{update_by, meet_by, compare_by}
 use Rattle.laws.specs.Superfluous.{mask_same}
-use Rattle.history.specs.Demand.{Agreement, demand_viewed}
+use Rattle.history.specs.Demand.{Agreement}
+use Rattle.history.proofs.Demand.{demand_viewed}
 use Rattle.demands.specs.Viewed.{keeps, bytes}
 use Rattle.demands.specs.Counted.{Valid, by_numbers, accepted_of, vectors_after, table_after, answers_of, vectors_of, run_next, →by_numbers, by_numbers→, vectors_accepted}
 
