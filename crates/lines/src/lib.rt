@@ -6,7 +6,7 @@ ghost use Rattle.lines.specs.Lines.{number_of, letter_of_word, has_good_lead, al
 ghost use Rattle.lines.specs.Pieces.{Placed};
 
 // A number of the program, 0 to 255.
-#[derive(Drop)]
+#[derive(Clone, Copy)]
 pub enum Number {
     Value(usize),
     Bad,

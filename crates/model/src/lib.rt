@@ -56,7 +56,7 @@ pub enum Listed {
 }
 
 // The rows of one record. Row k of slice p has its length at p * 8 + k and its cells from (p * 8 + k) * 8.
-#[derive(Drop)]
+#[derive(Clone, Copy)]
 pub struct Rows {
     pub n: usize,
     pub own: usize,
@@ -65,7 +65,7 @@ pub struct Rows {
 }
 
 // The answer of reading: the rows where it is Ok, and a blank beside a refusal.
-#[derive(Drop)]
+#[derive(Clone, Copy)]
 pub struct ReadRows {
     pub answer: Done,
     pub rows: Rows,

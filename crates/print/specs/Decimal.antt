@@ -1,14 +1,15 @@
--- The digits that are written are the number in decimal, and how many there are. Assumes nothing.
+-- The digits that the kit's library writes are the number in decimal, and how many there are. Assumes nothing.
 use Rattle.std.specs.Prelude.{◌≡◌, refl, Bool, true, false, cond, List, [], ◌∷◌, ◌++◌, ℕ, zero, suc, ◌+◌, ◌*◌, ◌-◌, ◌/◌, ◌%◌, ◌^◌, ◌≤◌, ◌<◌, length, ltb}
 use Rattle.std.proofs.Common.{ap, ap₂, pow-suc, arith, lt-ltb, le-ltb, ltb-false, length-append}
-use Rattle.print.specs.Digits.{hex_digit_ascii, last_digits, IsDigitCount}
+use Rattle.io.specs.Digits as kit
+use Rattle.io.specs.Digits.{IsDigitCount}
 use Rattle.model.specs.Answers.{number_of_refusal}
 use Rattle.model.specs.declared.Refusal.{Refusal}
 use Rattle.model.specs.declared.Refusal.TheVariants.{Unmarked, WrongN, WrongLength, NotWellFormed, NoSuchCopy, SameCopy, UnrelatedSlice, DifferentN, Unreadable}
 use Rattle.print.specs.Text.{digits, decimal}
 
 -- A digit in ASCII.
-glyph_is : (n : ℕ) → hex_digit_ascii (n % 10) ≡ 48 + n % 10
+glyph_is : (n : ℕ) → kit.hex_digit_ascii (n % 10) ≡ 48 + n % 10
 glyph_is n = let h : n % 10 < 10 = omega arith in rw (lt-ltb (n % 10) 10 h)
 
 below_pow : (k : ℕ) → k < 10 ^ k
@@ -18,7 +19,7 @@ below_pow (suc k) = omega (arith, below_pow k, pow-suc 10 k)
 pow_pos : (k : ℕ) → 0 < 10 ^ k
 pow_pos k = omega (arith, below_pow k)
 
-same_digits : (k m n : ℕ) → k ≤ m → IsDigitCount 10 1 n k → last_digits 10 k n ≡ digits m n
+same_digits : (k m n : ℕ) → k ≤ m → IsDigitCount 10 1 n k → kit.last_digits 10 k n ≡ digits m n
 unfolding digits
 same_digits zero m n h f = absurd (omega arith)
 same_digits (suc k) zero n h f = absurd (omega arith)
@@ -32,11 +33,11 @@ same_digits (suc (suc k)) (suc m) n h f =
     let bigger : 10 ^ suc k ≡ 10 ^ k * 10 = pow-suc 10 k in
     let biggest : 10 ^ suc (suc k) ≡ 10 ^ suc k * 10 = pow-suc 10 (suc k) in
     let more : 10 ≤ n = omega (arith, pow_pos k) in
-    let ih : last_digits 10 (suc k) (n / 10) ≡ digits m (n / 10) =
+    let ih : kit.last_digits 10 (suc k) (n / 10) ≡ digits m (n / 10) =
     same_digits (suc k) m (n / 10) (omega arith) (omega arith, omega arith, λ q. rw two_less (omega arith)) in
     rw (le-ltb n 10 more) (ap₂ (λ (l : List ℕ) (d : ℕ). l ++ (d ∷ [])) ih (glyph_is n))
 
-pub decimal_is : (n k : ℕ) → IsDigitCount 10 1 n k → last_digits 10 k n ≡ decimal n
+pub decimal_is : (n k : ℕ) → IsDigitCount 10 1 n k → kit.last_digits 10 k n ≡ decimal n
 unfolding decimal
 decimal_is n k f = same_digits k (suc n) n (go k f) f
   where

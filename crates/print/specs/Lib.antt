@@ -1,5 +1,4 @@
 pub mod Text
 pub mod Printed
 pub mod Room
-pub mod Digits
 pub mod Decimal

@@ -2,17 +2,16 @@
 // word holds, so that no sum wraps. An answer takes at most 11 bytes.
 #![tactic(auto)]
 
-ghost use Rattle.std.specs.Prelude.{◌≡◌, ◌+◌, ◌^◌, ◌<◌, ◌≤◌, set, take};
+ghost use Rattle.std.specs.Prelude.{◌≡◌, ◌+◌, ◌^◌, ◌<◌, ◌≤◌, set};
 ghost use Rattle.model.specs.Answers.{refused, ordered, listed, number_of_refusal, number_of_order, said_done, said_compared, said_listed};
 ghost use Rattle.print.specs.Text.{decimal};
-ghost use Rattle.print.specs.Digits.{IsDigitCount};
 ghost use Rattle.print.specs.Printed.{answer_text, line_text, said_answer};
 ghost use Rattle.print.specs.Room.{Put};
 
 use model::{Compared, Done, Listed, Order, Refusal};
 
 // The answer of any of the calls.
-#[derive(Drop)]
+#[derive(Clone, Copy)]
 pub enum Answer {
     Done(Done),
     Compared(Compared),
@@ -41,42 +40,13 @@ pub fn put(out: &mut [u8], at: usize, text: &[u8]) -> usize
     at + i
 }
 
-// How many digits a number takes in decimal.
-fn digit_count(n: u64) -> usize
-    ensures { IsDigitCount 10 1 n result }
-{
-    let mut k = 1;
-    let mut rest = n / 10;
-    while rest > 0 {
-        rest /= 10;
-        k += 1;
-    }
-    k
-}
-
-// Puts a number in decimal at the start of `out`; the answer is how many digits it takes.
-fn put_digits(n: u64, out: &mut [u8; 20]) -> usize
-    ensures within { result ≤ 20 }
-    ensures text { take result out.new ≡ decimal n }
-{
-    let k = digit_count(n);
-    let mut i = k;
-    let mut rest = n;
-    while i > 0 {
-        i -= 1;
-        out[i] = b'0' + (rest % 10) as u8;
-        rest /= 10;
-    }
-    k
-}
-
 // A number in decimal.
 fn put_number(out: &mut [u8], at: usize, n: usize) -> usize
     requires { at ≤ 2 ^ 32 }
     ensures { Put (decimal n) at out.old out.new result }
 {
     let mut digits = [0u8; 20];
-    let k = put_digits(n as u64, &mut digits);
+    let k = io::decimal(n as u64, &mut digits);
     put(out, at, &digits[..k])
 }
 
