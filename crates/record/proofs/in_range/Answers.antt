@@ -1,4 +1,4 @@
--- `is_in_range` makes the test of N in its order. Assumes nothing.
+-- `in_range` makes the test of N in its order. Assumes nothing.
 use borrow.Author.Tests.{lt-leb, le-leb}
 use Rattle.model.specs.Bytes.{is_in_range}
 use Rattle.record.proofs.in_range.Goals as goal
