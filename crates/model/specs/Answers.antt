@@ -1,14 +1,12 @@
 -- What an answer says: document 01's number and values for each case of each answer, `said`, and that it is one-to-one. The
 -- definitions of the calls speak of these, and so do the promises. Assumes nothing.
-use Rattle.std.specs.Prelude.{◌≡◌, refl, Bool, true, false, not, ◌&&◌, cond, List, [], ◌∷◌, ℕ, get_or}
+use Rattle.std.specs.Prelude.{◌≡◌, refl, Bool, true, false, not, ◌&&◌, cond, List, [], ◌∷◌, ℕ, get_or, Result, Ok, Err}
 use Rattle.std.proofs.Common.{sym, ap, ◌∙◌}
 use Rattle.model.specs.declared.Order.{Order}
 use Rattle.model.specs.declared.Order.TheVariants.{Equal, Older, Newer, Conflicting}
 use Rattle.model.specs.declared.Refusal.{Refusal}
 use Rattle.model.specs.declared.Refusal.TheVariants.{Unmarked, WrongN, WrongLength, NotWellFormed, NoSuchCopy, SameCopy, UnrelatedSlice, DifferentN, Unreadable}
-use Rattle.model.specs.declared.Done.{Done}
-use Rattle.model.specs.declared.Compared.{Compared}
-use Rattle.model.specs.declared.Listed.{Listed}
+use Rattle.model.specs.declared.Copies.{Copies}
 
 -- An answer in document 01's numbers.
 pub data Said : Type 0 where
@@ -40,18 +38,19 @@ number_of_order Older = 1
 number_of_order Newer = 2
 number_of_order Conflicting = 3
 
--- What each answer says.
-abbrev pub said_done : Done → Said
-said_done Done.Ok = done
-said_done (Done.Refused r) = refused (number_of_refusal r)
+-- What a call's answer says: what it gives, by `gives`, or the refusal's number.
+abbrev pub said : {A : Type 0} → (A → Said) → Result A Refusal → Said
+said gives (Ok x) = gives x
+said gives (Err r) = refused (number_of_refusal r)
 
-abbrev pub said_compared : Compared → Said
-said_compared (Compared.As o) = ordered (number_of_order o)
-said_compared (Compared.Refused r) = refused (number_of_refusal r)
+abbrev pub said_done : Result (Unit {0}) Refusal → Said
+said_done = said (λ _. done)
 
-abbrev pub said_listed : Listed → Said
-said_listed (Listed.Copies mask count) = listed mask count
-said_listed (Listed.Refused r) = refused (number_of_refusal r)
+abbrev pub said_compared : Result Order Refusal → Said
+said_compared = said (λ o. ordered (number_of_order o))
+
+abbrev pub said_listed : Result Copies Refusal → Said
+said_listed = said (λ c. listed c.mask c.count)
 
 -- ---- A reason to refuse, and the first that applies
 
@@ -79,7 +78,7 @@ leave l old new = cond (accepted l) new old
 heard_order : ℕ → Order
 heard_order k = get_or (Equal ∷ Older ∷ Newer ∷ Conflicting ∷ []) k Equal
 
-heard_refusal : ℕ → Refusal
+pub heard_refusal : ℕ → Refusal
 heard_refusal k =
     get_or
     (Unmarked ∷ Unmarked ∷ WrongN ∷ WrongLength ∷ NotWellFormed ∷ NoSuchCopy ∷ SameCopy ∷ UnrelatedSlice ∷ DifferentN ∷ Unreadable ∷ [])
@@ -105,23 +104,16 @@ refusal_heard UnrelatedSlice = refl
 refusal_heard DifferentN = refl
 refusal_heard Unreadable = refl
 
-heard_done : Said → Done
-heard_done (refused k) = Done.Refused (heard_refusal k)
-heard_done done = Done.Ok
-heard_done (ordered k) = Done.Ok
-heard_done (listed m c) = Done.Ok
+-- What is given for each saying that is no refusal, or the refusal.
+unfoldable pub heard : {A : Type 0} → (Said → A) → Said → Result A Refusal
+heard gives (refused k) = Err (heard_refusal k)
+heard gives done = Ok (gives done)
+heard gives (ordered k) = Ok (gives (ordered k))
+heard gives (listed m c) = Ok (gives (listed m c))
 
-heard_compared : Said → Compared
-heard_compared (refused k) = Compared.Refused (heard_refusal k)
-heard_compared done = Compared.As Equal
-heard_compared (ordered k) = Compared.As (heard_order k)
-heard_compared (listed m c) = Compared.As Equal
-
-heard_listed : Said → Listed
-heard_listed (refused k) = Listed.Refused (heard_refusal k)
-heard_listed done = Listed.Copies 0 0
-heard_listed (ordered k) = Listed.Copies 0 0
-heard_listed (listed m c) = Listed.Copies m c
+pub err_heard : {A : Type 0} (gives : Said → A) (r : Refusal) → heard gives (refused (number_of_refusal r)) ≡ Err r
+unfolding heard
+err_heard gives r = ap Err (refusal_heard r)
 
 -- A saying that can be heard again is one-to-one.
 heard_once : {A : Type 0} (says : A → Said) (hears : Said → A) → ((x : A) → hears (says x) ≡ x) → (x y : A) → says x ≡ says y → x ≡ y
@@ -130,26 +122,38 @@ heard_once says hears back x y e = sym (back x) ∙ ap hears e ∙ back y
 pub order_once : (x y : Order) → number_of_order x ≡ number_of_order y → x ≡ y
 order_once x y e = sym (order_heard x) ∙ ap heard_order e ∙ order_heard y
 
-pub done_once : (x y : Done) → said_done x ≡ said_done y → x ≡ y
-unfolding heard_done
-done_once = heard_once said_done heard_done back
-  where
-    back : (x : Done) → heard_done (said_done x) ≡ x
-    back Done.Ok = refl
-    back (Done.Refused r) = ap Done.Refused (refusal_heard r)
+heard_order_of : Said → Order
+heard_order_of (ordered k) = heard_order k
+heard_order_of done = Equal
+heard_order_of (refused k) = Equal
+heard_order_of (listed m c) = Equal
 
-pub compared_once : (x y : Compared) → said_compared x ≡ said_compared y → x ≡ y
-unfolding heard_compared
-compared_once = heard_once said_compared heard_compared back
-  where
-    back : (x : Compared) → heard_compared (said_compared x) ≡ x
-    back (Compared.As o) = ap Compared.As (order_heard o)
-    back (Compared.Refused r) = ap Compared.Refused (refusal_heard r)
+heard_copies : Said → Copies
+heard_copies (listed m c) = record { mask = m; count = c }
+heard_copies done = record { mask = 0; count = 0 }
+heard_copies (refused k) = record { mask = 0; count = 0 }
+heard_copies (ordered k) = record { mask = 0; count = 0 }
 
-pub listed_once : (x y : Listed) → said_listed x ≡ said_listed y → x ≡ y
-unfolding heard_listed
-listed_once = heard_once said_listed heard_listed back
+pub done_once : (x y : Result (Unit {0}) Refusal) → said_done x ≡ said_done y → x ≡ y
+unfolding heard
+done_once = heard_once said_done (heard (λ _. tt)) back
   where
-    back : (x : Listed) → heard_listed (said_listed x) ≡ x
-    back (Listed.Copies m c) = refl
-    back (Listed.Refused r) = ap Listed.Refused (refusal_heard r)
+    back : (x : Result (Unit {0}) Refusal) → heard (λ _. tt) (said_done x) ≡ x
+    back (Ok u) = refl
+    back (Err r) = err_heard (λ _. tt) r
+
+pub compared_once : (x y : Result Order Refusal) → said_compared x ≡ said_compared y → x ≡ y
+unfolding heard heard_order_of
+compared_once = heard_once said_compared (heard heard_order_of) back
+  where
+    back : (x : Result Order Refusal) → heard heard_order_of (said_compared x) ≡ x
+    back (Ok o) = ap Ok (order_heard o)
+    back (Err r) = err_heard heard_order_of r
+
+pub listed_once : (x y : Result Copies Refusal) → said_listed x ≡ said_listed y → x ≡ y
+unfolding heard heard_copies
+listed_once = heard_once said_listed (heard heard_copies) back
+  where
+    back : (x : Result Copies Refusal) → heard heard_copies (said_listed x) ≡ x
+    back (Ok c) = refl
+    back (Err r) = err_heard heard_copies r
