@@ -12,7 +12,7 @@ ghost use Rattle.model.specs.Promises.{Owed};
 ghost use Rattle.record.specs.Passed.{RowsPassed};
 ghost use Rattle.record.specs.Words.{head_marks};
 
-use model::{Done, Refusal};
+use model::Refusal;
 
 // Every row of a slice.
 fn rows_formed(s: &[u8], n: usize) -> bool
@@ -118,24 +118,24 @@ pub fn record_formed(r: &[u8], n: usize) -> bool
 }
 
 // Check of one loose record: refusals 1 to 4.
-pub fn check_record(r: &[u8]) -> Done
+pub fn check_record(r: &[u8]) -> Result<(), Refusal>
     ensures { Owed (check_record_says r.now) [] (said_done result) [] }
 {
     if r.len() < 4 {
-        return Done::Refused(Refusal::Unmarked);
+        return Err(Refusal::Unmarked);
     }
     if !has_mark(r) {
-        return Done::Refused(Refusal::Unmarked);
+        return Err(Refusal::Unmarked);
     }
     let n = r[2] as usize;
     if !in_range(n) {
-        return Done::Refused(Refusal::WrongN);
+        return Err(Refusal::WrongN);
     }
     if r.len() != 4 + n * (n * (n + 1)) {
-        return Done::Refused(Refusal::WrongLength);
+        return Err(Refusal::WrongLength);
     }
     if !record_formed(r, n) {
-        return Done::Refused(Refusal::NotWellFormed);
+        return Err(Refusal::NotWellFormed);
     }
-    Done::Ok
+    Ok(())
 }
