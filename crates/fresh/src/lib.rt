@@ -10,7 +10,7 @@ ghost use Rattle.model.specs.Bytes.{slice_size, record_size, table_size, slice_b
 ghost use Rattle.model.specs.Calls.{fresh_says, fresh_leaves};
 ghost use Rattle.model.specs.Promises.{Owed};
 
-use model::{Done, Refusal};
+use model::Refusal;
 
 // `src` n times, one behind another, into `dst` from `at` on.
 fn repeat(dst: &mut [u8], at: usize, src: &[u8], n: usize)
@@ -61,26 +61,16 @@ fn fresh_records(t: &mut [u8], n: usize)
 }
 
 // Make a fresh table of n copies: refusals 2, then 3; the old bytes are ignored.
-pub fn make_fresh(t: &mut [u8], n: usize) -> Done
+#[tactic(auto, unfolding(model::specs::Answers::answer, model::specs::Answers::accepted, model::specs::Answers::leave, model::specs::Bytes::is_in_range, model::specs::Calls::fresh_reasons, model::specs::Calls::fresh_says, model::specs::Calls::fresh_leaves))]
+pub fn make_fresh(t: &mut [u8], n: usize) -> Result<(), Refusal>
     ensures { Owed (fresh_says t.old n) (fresh_leaves t.old n ∷ []) (said_done result) (t.new ∷ []) }
 {
-    let d = refusal(t, n);
-    let Done::Ok = d else {
-        return d;
-    };
-    fresh_records(t, n);
-    Done::Ok
-}
-
-// Why a fresh table is refused: N not 2 to 8, then the length.
-fn refusal(t: &[u8], n: usize) -> Done
-    ensures { said_done result ≡ fresh_says t.now n }
-{
     if !record::in_range(n) {
-        return Done::Refused(Refusal::WrongN);
+        return Err(Refusal::WrongN);
     }
-    if t.len() != n * (4 + n * (n * (n + 1))) {
-        return Done::Refused(Refusal::WrongLength);
+    if t.len() != n * record::record_len(n) {
+        return Err(Refusal::WrongLength);
     }
-    Done::Ok
+    fresh_records(t, n);
+    Ok(())
 }

@@ -1,6 +1,6 @@
 -- Laws for the comparison of two records: a slice's answer from its three tests, an order from two counts, and the counts of the slices
 -- looked at so far. Assumes nothing.
-use Rattle.std.specs.Prelude.{◌≡◌, Bool, true, cond, List, ℕ, zero, suc, ◌+◌, ◌≤◌, ◌<◌, get_or, eqb}
+use Rattle.std.specs.Prelude.{◌≡◌, Bool, true, cond, List, ℕ, zero, suc, ◌+◌, ◌≤◌, ◌<◌, get_or, eqb, Ok, Err}
 use Rattle.std.proofs.Math.Path.{refl, sym, ap, ap₂}
 use Rattle.std.proofs.Common.{◌∙◌, arith}
 use Rattle.std.proofs.Math.Bool.{false}
@@ -10,7 +10,6 @@ use Rattle.model.specs.declared.SliceAnswer.{SliceAnswer}
 use Rattle.model.specs.declared.SliceAnswer.TheVariants.{Unrelated}
 use Rattle.model.specs.declared.Order.{Order}
 use Rattle.model.specs.declared.Order.TheVariants.{Older, Newer, Conflicting}
-use Rattle.model.specs.declared.Compared.{Compared}
 use Rattle.model.specs.declared.Refusal.TheVariants.{UnrelatedSlice}
 use Rattle.facts.specs.Numbers.{count_next, count_le, →any, →none, below_next}
 use Rattle.facts.specs.Cases.{cond_true, cond_false}
@@ -77,16 +76,16 @@ module _ (n a b : ℕ) (x y : Record) where
     }
 
     -- At an unrelated slice the comparison is refused.
-    pub counted_unrelated : answer_at_slice a b x y p ≡ Unrelated → p < n → Compared.Refused UnrelatedSlice ≡ pair_compared n a b x y
+    pub counted_unrelated : answer_at_slice a b x y p ≡ Unrelated → p < n → Err UnrelatedSlice ≡ pair_compared n a b x y
     unfolding pair_compared unrelated
     counted_unrelated e less =
-        sym (cond_true (Compared.Refused UnrelatedSlice) (Compared.As (comparison n a b x y)) (→any n (λ q. is_unrelated (answer_at_slice a b x y q)) p less (ap is_unrelated e)))
+        sym (cond_true (Err UnrelatedSlice) (Ok (comparison n a b x y)) (→any n (λ q. is_unrelated (answer_at_slice a b x y q)) p less (ap is_unrelated e)))
 
     -- With every slice looked at, the order stands in the counts.
-    pub counted_done : n ≤ p → (o : Order) → o ≡ order_of behind ahead → Compared.As o ≡ pair_compared n a b x y
+    pub counted_done : n ≤ p → (o : Order) → o ≡ order_of behind ahead → Ok o ≡ pair_compared n a b x y
     unfolding pair_compared unrelated comparison
     counted_done over o e =
         let all : n ≡ p = omega (arith, so_far.within) in
         let none : unrelated n a b x y ≡ false = →none n (λ q. is_unrelated (answer_at_slice a b x y q)) (λ q h. so_far.related q (omega arith)) in
         let order : o ≡ comparison n a b x y = e ∙ ap₂ order_of so_far.behinds so_far.aheads ∙ ap (λ (m : ℕ). comparison m a b x y) (sym all) in
-        sym (cond_false (Compared.Refused UnrelatedSlice) (Compared.As (comparison n a b x y)) none ∙ ap Compared.As (sym order))
+        sym (cond_false (Err UnrelatedSlice) (Ok (comparison n a b x y)) none ∙ ap Ok (sym order))

@@ -8,7 +8,7 @@ ghost use Rattle.model.specs.Bytes.{record_rows};
 ghost use Rattle.slice.specs.Shown.{row_place};
 ghost use Rattle.pair.specs.Pair.{PairShown, pair_compared, b_wins_slice};
 
-use model::{Compared, Order, Refusal, SliceAnswer};
+use model::{Order, Refusal, SliceAnswer};
 
 // The answer of the principal rows x of a and y of b.
 pub fn slice_answer(x: &[u8], y: &[u8]) -> SliceAnswer
@@ -81,7 +81,7 @@ fn order_of(behind: usize, ahead: usize) -> Order
 }
 
 // The comparison of two checked records: refusal 7 at an unrelated slice, the order otherwise.
-pub fn compare_pair(x: &[u8], y: &[u8], n: usize, a: usize, b: usize) -> Compared
+pub fn compare_pair(x: &[u8], y: &[u8], n: usize, a: usize, b: usize) -> Result<Order, Refusal>
     requires { PairShown n a b x.now y.now }
     ensures { result ≡ pair_compared n a b (record_rows n x.now) (record_rows n y.now) }
 {
@@ -91,13 +91,13 @@ pub fn compare_pair(x: &[u8], y: &[u8], n: usize, a: usize, b: usize) -> Compare
     while p < n {
         let s = answer_at(x, y, n, a, b, p);
         let (SliceAnswer::Level | SliceAnswer::Behind | SliceAnswer::Ahead) = s else {
-            return Compared::Refused(Refusal::UnrelatedSlice);
+            return Err(Refusal::UnrelatedSlice);
         };
         behind += one_behind(s);
         ahead += one_ahead(s);
         p += 1;
     }
-    Compared::As(order_of(behind, ahead))
+    Ok(order_of(behind, ahead))
 }
 
 // b wins slice p if a's head is in b's principal row, so b wins a level slice.

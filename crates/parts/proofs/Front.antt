@@ -6,7 +6,7 @@ use native.Mathlib.Nat.{add-sub_cancel_left, zero-mul, add-zero, suc-mul, zero-a
 use native.Mathlib.Numerals.{add-one}
 use native.Mathlib.Omega.{arith}
 use lib.ListN.{length, take, drop, take-append-drop}
-use lib.Seq.{take_all, drop-drop, paste, take-length, length-take-le, drop_at}
+use lib.Seq.{take_all, drop-drop, length-take-le, drop_at}
 use borrow.Rule.Slice.PartMut.{put_mid}
 use Rattle.parts.specs.Parts.{part, join, room, length-join, part-join, part_front}
 use Rattle.parts.specs.Written.{written, length-written, take-written, drop-written}
@@ -85,8 +85,3 @@ front_joined so e = rw (← e) (rw zero-add at so.done)
 pub lent_back : (at w : ℕ) (v l : List ℕ) → length v ≡ w → put_mid at (at + w - at) l v ≡ written at v l
 unfolding written
 lent_back at w v l e = rw (add-sub_cancel_left, drop-drop, e)
-
--- What a whole copy leaves.
-pub copied : (at : ℕ) (v l : List ℕ) → paste l at v (length v) ≡ written at v l
-unfolding written
-copied at v l = rw (take-length v) (append_assoc (take at l) v (drop (at + length v) l))

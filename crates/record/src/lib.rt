@@ -1,18 +1,19 @@
 // One record in bytes: is it well formed, and the check of a loose record. Each promise cites document 01's definitions of crate model.
 #![tactic(auto)]
 
-ghost use Rattle.std.specs.Prelude.{◌≡◌, [], ◌<◌, ◌≤◌, length};
+ghost use Rattle.std.specs.Prelude.{◌≡◌, [], ◌<◌, ◌≤◌, length, IfOk};
 ghost use Rattle.parts.specs.Parts.{part};
 ghost use Rattle.parts.specs.Written.{written};
 ghost use Rattle.model.specs.Tests.{all};
-ghost use Rattle.model.specs.Answers.{said_done};
-ghost use Rattle.model.specs.Bytes.{row_size, slice_size, record_size, header_bytes, row_in_slice, slice_in, marked, is_in_range, row_is_formed, slice_is_formed, record_is_formed};
+ghost use Rattle.model.specs.Answers.{said, said_done, done, answer};
+ghost use Rattle.model.specs.Bytes.{row_size, slice_size, record_size, header_bytes, row_in_slice, slice_in, marked, copies_in, is_in_range, row_is_formed, slice_is_formed, record_is_formed};
 ghost use Rattle.model.specs.Calls.{check_record_says};
 ghost use Rattle.model.specs.Promises.{Owed};
 ghost use Rattle.record.specs.Passed.{RowsPassed};
+ghost use Rattle.record.specs.Told.{header_reasons};
 ghost use Rattle.record.specs.Words.{head_marks};
 
-use model::{Done, Refusal};
+use model::Refusal;
 
 // Every row of a slice.
 fn rows_formed(s: &[u8], n: usize) -> bool
@@ -69,34 +70,34 @@ fn slices_formed(r: &[u8], n: usize, own: usize) -> bool
     true
 }
 
+// The mark that every record begins with.
+const MARK: [u8; 2] = [0xB5, 0x0A];
+
 // The first two bytes are the mark.
+#[tactic(auto, unfolding(model::specs::Bytes::marked))]
 pub fn has_mark(b: &[u8]) -> bool
     requires { 2 ≤ length b.now }
     ensures { result ≡ marked b.now }
 {
-    if b[0] != 0xB5 {
-        return false;
-    }
-    b[1] == 0x0A
+    b.starts_with(&MARK)
 }
 
 // The header into the first four bytes: the mark, N, the own number.
+#[tactic(auto, unfolding(model::specs::Bytes::header_bytes))]
 pub fn put_header(r: &mut [u8], n: usize, own: usize)
     requires { (4 ≤ length r.old) × (n ≤ 8) × (own < n) }
     ensures { r.new ≡ written 0 (header_bytes n own (λ p k. [])) r.old }
 {
-    let header: [u8; 4] = [0xB5, 0x0A, n as u8, own as u8];
+    let header = [MARK[0], MARK[1], n as u8, own as u8];
     parts::copy(r, 0, &header);
 }
 
 // N is 2 to 8.
+#[tactic(auto, unfolding(model::specs::Bytes::is_in_range))]
 pub fn in_range(n: usize) -> bool
     ensures { result ≡ is_in_range n }
 {
-    if n < 2 {
-        return false;
-    }
-    n <= 8
+    (2..=8).contains(&n)
 }
 
 // A record of the right size is well formed: its header, then slice by slice.
@@ -117,25 +118,42 @@ pub fn record_formed(r: &[u8], n: usize) -> bool
     slices_formed(r, n, own)
 }
 
+// How many bytes a record of n copies has.
+pub fn record_len(n: usize) -> usize
+    requires { n ≤ 8 }
+    ensures { result ≡ record_size n }
+{
+    4 + n * (n * (n + 1))
+}
+
+// N of the header of a record or a table: refusal 1, then 2.
+#[tactic(auto, unfolding(model::specs::Answers::answer, model::specs::Bytes::copies_in, model::specs::Bytes::is_in_range, crate::specs::Told::header_reasons))]
+pub fn copies_told(b: &[u8]) -> Result<usize, Refusal>
+    ensures answers { said (λ _. done) result ≡ answer (header_reasons b.now) done }
+    ensures copies { IfOk result (λ n. n ≡ copies_in b.now) }
+    ensures range { IfOk result (λ n. (2 ≤ n) × (n ≤ 8)) }
+{
+    if b.len() < 4 || !has_mark(b) {
+        return Err(Refusal::Unmarked);
+    }
+    let n = b[2] as usize;
+    if !in_range(n) {
+        return Err(Refusal::WrongN);
+    }
+    Ok(n)
+}
+
 // Check of one loose record: refusals 1 to 4.
-pub fn check_record(r: &[u8]) -> Done
+#[tactic(auto, unfolding(model::specs::Answers::answer, model::specs::Bytes::copies_in, model::specs::Calls::form_reasons, model::specs::Calls::record_reasons, model::specs::Calls::check_record_says, crate::specs::Told::header_reasons))]
+pub fn check_record(r: &[u8]) -> Result<(), Refusal>
     ensures { Owed (check_record_says r.now) [] (said_done result) [] }
 {
-    if r.len() < 4 {
-        return Done::Refused(Refusal::Unmarked);
-    }
-    if !has_mark(r) {
-        return Done::Refused(Refusal::Unmarked);
-    }
-    let n = r[2] as usize;
-    if !in_range(n) {
-        return Done::Refused(Refusal::WrongN);
-    }
-    if r.len() != 4 + n * (n * (n + 1)) {
-        return Done::Refused(Refusal::WrongLength);
+    let n = copies_told(r)?;
+    if r.len() != record_len(n) {
+        return Err(Refusal::WrongLength);
     }
     if !record_formed(r, n) {
-        return Done::Refused(Refusal::NotWellFormed);
+        return Err(Refusal::NotWellFormed);
     }
-    Done::Ok
+    Ok(())
 }
