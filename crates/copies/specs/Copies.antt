@@ -1,12 +1,13 @@
 -- The copies of a checked table: what the check has shown, how two copies compare, and which are superfluous. Assumes nothing.
-use Rattle.std.specs.Prelude.{◌≡◌, Bool, true, false, not, ◌&&◌, List, ℕ, ◌≤◌, ◌<◌, length, eqb}
+use Rattle.std.specs.Prelude.{◌≡◌, refl, Bool, true, false, not, ◌&&◌, List, ℕ, ◌≤◌, ◌<◌, length, eqb, Result, Ok, Err}
+use Rattle.std.proofs.Common.{arith}
 use Rattle.model.specs.Tests.{any}
 use Rattle.model.specs.Steps.{Table, unrelated, comparison, is_covered}
 use Rattle.model.specs.Bytes.{table_size, record_in}
 use Rattle.model.specs.declared.Order.{Order}
+use Rattle.model.specs.declared.Refusal.{Refusal}
+use Rattle.model.specs.declared.Refusal.TheVariants.{UnrelatedSlice}
 use Rattle.slice.specs.Shown.{RecordShown}
-use Rattle.copies.specs.declared.Cover.{Cover}
-use Rattle.copies.specs.declared.Cover.TheVariants.{Unrelated, Covered, Uncovered}
 
 pub record TableShown (n : ℕ) (t : List ℕ) : Type 0 where
   pub few : n ≤ 8
@@ -29,13 +30,15 @@ unfoldable pub covered_by : ℕ → Table → ℕ → ℕ → Bool
 covered_by n t i m = any m (λ j. not (eqb j i) && is_covered (order n t i j))
 
 -- From: some other copy is unrelated; some other copy is equal or newer.
-abbrev pub cover_of : Bool → Bool → Cover
-cover_of true covered = Unrelated
-cover_of false true = Covered
-cover_of false false = Uncovered
+abbrev pub cover_of : Bool → Bool → Result Bool Refusal
+cover_of true covered = Err UnrelatedSlice
+cover_of false covered = Ok covered
 
--- A copy that was covered stays so; it is covered by a copy that covers it.
-abbrev pub or_covered : Bool → Cover → Bool
-or_covered found Unrelated = found
-or_covered found Covered = true
-or_covered found Uncovered = found
+-- What an answer, and what a refusal, tells of the two.
+pub cover_ok : (u v : Bool) (c : Bool) → Ok c ≡ cover_of u v → (u ≡ false) × (c ≡ v)
+cover_ok true v c e = absurd (let z : ◌≡◌ {A = ℕ} 0 1 = cc in omega arith)
+cover_ok false v c e = (refl, cc)
+
+pub cover_err : (u v : Bool) (r : Refusal) → Err r ≡ cover_of u v → (u ≡ true) × (r ≡ UnrelatedSlice)
+cover_err true v r e = (refl, cc)
+cover_err false v r e = absurd (let z : ◌≡◌ {A = ℕ} 0 1 = cc in omega arith)

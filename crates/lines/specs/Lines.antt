@@ -1,12 +1,11 @@
 -- Document 01's 'The program', the reading: the input as lines, a line as words, a word as a number from 0 to 255, the words as a call.
 -- Assumes nothing.
-use Rattle.std.specs.Prelude.{Bool, true, false, cond, not, ◌&&◌, List, [], ◌∷◌, ℕ, ◌+◌, ◌*◌, ◌-◌, eqb, leb}
+use Rattle.std.specs.Prelude.{Bool, true, false, cond, not, ◌&&◌, List, [], ◌∷◌, ℕ, ◌+◌, ◌*◌, ◌-◌, eqb, leb, Option, Some, None}
+use Rattle.std.specs.Option.{option_and_then}
 use Prim.Native.Char.{code}
 use Rattle.model.specs.Tests.{every}
-use Rattle.lines.specs.declared.Number.{Number}
-use Rattle.lines.specs.declared.Number.TheVariants.{Value, Bad}
 use Rattle.lines.specs.declared.Command.{Command}
-use Rattle.lines.specs.declared.Command.TheVariants.{Fresh, Update, Meet, Compare, Superfluous, Unreadable}
+use Rattle.lines.specs.declared.Command.TheVariants.{Fresh, Update, Meet, Compare, Superfluous}
 
 -- ---- Lines and words
 
@@ -48,44 +47,51 @@ value_from v (c ∷ l) = value_from (v * 10 + (c - code "0")) l
 unfoldable pub is_number : List ℕ → Bool
 is_number w = has_good_lead w && (every is_digit w && leb (value_from 0 w) 255)
 
-unfoldable pub number_of : List ℕ → Number
-number_of w = cond (is_number w) (Value (value_from 0 w)) Bad
+unfoldable pub number_of : List ℕ → Option ℕ
+number_of w = cond (is_number w) (Some (value_from 0 w)) None
 
 -- ---- Calls
 
--- The letter that a word is; 0, which is no letter, where it isn't one byte.
-unfoldable pub letter_of_word : List ℕ → ℕ
-letter_of_word [] = 0
-letter_of_word (c ∷ []) = c
-letter_of_word (c ∷ d ∷ l) = 0
+-- The letter that a word is, where it is one byte.
+unfoldable pub letter_of_word : List ℕ → Option ℕ
+letter_of_word [] = None
+letter_of_word (c ∷ []) = Some c
+letter_of_word (c ∷ d ∷ l) = None
 
 -- `D`
-unfoldable pub alone : ℕ → Command
-alone c = cond (eqb c (code "D")) Superfluous Unreadable
+unfoldable pub alone : ℕ → Option Command
+alone c = cond (eqb c (code "D")) (Some Superfluous) None
 
 -- `I n`, `U i`
-unfoldable pub with_one : ℕ → Number → Command
-with_one c Bad = Unreadable
-with_one c (Value i) = cond (eqb c (code "I")) (Fresh i) (cond (eqb c (code "U")) (Update i) Unreadable)
+unfoldable pub with_one : ℕ → Option ℕ → Option Command
+with_one c None = None
+with_one c (Some i) = cond (eqb c (code "I")) (Some (Fresh i)) (cond (eqb c (code "U")) (Some (Update i)) None)
 
 -- `M i j`, `C i j`
-unfoldable pub with_two : ℕ → Number → Number → Command
-with_two c Bad y = Unreadable
-with_two c (Value i) Bad = Unreadable
-with_two c (Value i) (Value j) = cond (eqb c (code "M")) (Meet i j) (cond (eqb c (code "C")) (Compare i j) Unreadable)
+unfoldable pub with_two : ℕ → Option ℕ → Option ℕ → Option Command
+with_two c None y = None
+with_two c (Some i) None = None
+with_two c (Some i) (Some j) = cond (eqb c (code "M")) (Some (Meet i j)) (cond (eqb c (code "C")) (Some (Compare i j)) None)
 
 -- The letter and the words behind it.
-unfoldable pub command_of : ℕ → List (List ℕ) → Command
+unfoldable pub command_of : ℕ → List (List ℕ) → Option Command
 command_of c [] = alone c
 command_of c (x ∷ []) = with_one c (number_of x)
 command_of c (x ∷ y ∷ []) = with_two c (number_of x) (number_of y)
-command_of c (x ∷ y ∷ z ∷ l) = Unreadable
+command_of c (x ∷ y ∷ z ∷ l) = None
 
-unfoldable pub command_in : List (List ℕ) → Command
-command_in [] = Unreadable
-command_in (w ∷ l) = command_of (letter_of_word w) l
+-- The words behind the letter as they are looked at: up to three.
+abbrev pub front_of : Option (List ℕ) → Option (List ℕ) → Option (List ℕ) → List (List ℕ)
+front_of None y third = []
+front_of (Some x) None third = x ∷ []
+front_of (Some x) (Some y) None = x ∷ y ∷ []
+front_of (Some x) (Some y) (Some z) = x ∷ y ∷ z ∷ []
 
--- The call that a line is.
-unfoldable pub line_read : List ℕ → Command
+unfoldable pub command_in : List (List ℕ) → Option Command
+command_in [] = None
+command_in (w ∷ l) = option_and_then (λ c. command_of c l) (letter_of_word w)
+
+-- The call that a line is; none where it cannot be read.
+unfoldable pub line_read : List ℕ → Option Command
 unfolding onto pieces words_of every has_good_lead value_from is_number number_of letter_of_word alone with_one with_two command_of command_in
 line_read l = command_in (words_of l)

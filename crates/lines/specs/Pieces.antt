@@ -1,17 +1,20 @@
--- How pieces are found: the place of the first separator, and what that place says of lines and words. Assumes nothing.
-use Rattle.std.specs.Prelude.{◌≡◌, Bool, get_or, take, drop, eqb}
+-- How pieces are found: the place of the first separator, and what it says of lines; words, as std splits them. Assumes nothing.
+use Rattle.std.specs.Prelude.{◌≡◌, Bool, take, drop, eqb, ltb, Option, Some, None}
+use Rattle.std.specs.List.{position, position_or_len, slice_split}
+use Rattle.std.specs.Option.{unwrap_or}
+use borrow.Author.Tests.{ltb-false}
 use Rattle.std.proofs.Math.Path.{refl, ap}
-use Rattle.std.proofs.Common.{sym, ◌∙◌, add-zero, length-drop, drop_of_length-le, drop-cons, take_all, length-take-le}
+use Rattle.std.proofs.Common.{sym, ◌∙◌, one-add, length-drop, drop_of_length-le, take_all, length-take-le}
 use Rattle.std.proofs.Math.Bool.{true, false, cond}
+use Rattle.std.proofs.lemmas.List.Recursion.{is_position_or_len}
 use mathlib.Core.List.{List, [], ◌∷◌}
 use Prim.Native.Nat.{ℕ, suc, ◌+◌, ◌-◌, ◌≤◌, ◌<◌}
 use Prim.Native.Char.{code}
 use Rattle.std.proofs.Math.Numerals.{add-one}
 use Rattle.std.proofs.Math.Decide.{dec_lt}
 use native.Mathlib.Omega.{arith}
-use borrow.Author.Tests.{eq-eqb, ne_eqb}
 use Rattle.std.proofs.Math.ListN.{length}
-use Rattle.std.proofs.Math.Seq.{drop-length, take-length}
+use Rattle.std.proofs.Math.Seq.{take-length}
 use Rattle.lines.specs.Lines.{onto, pieces, lines_of, words_of}
 
 -- How many bytes stand in front of the first separator; all of them where there is none.
@@ -28,19 +31,10 @@ place_within sep (c ∷ l) = go (eqb c sep) (place_within sep l)
     go true h = omega arith
     go false h = omega arith
 
--- The first separator found: its place; and the byte looked at is none: the place is further on.
-module _ (sep : ℕ) (l : List ℕ) (i : ℕ) (more : i < length l) where
-  pub place_here : get_or l i 0 ≡ sep → i ≡ i + place sep (drop i l)
-  unfolding place
-  place_here e = rw (drop-cons l i 0 more, eq-eqb (get_or l i 0) sep e, add-zero)
-
-  pub place_on : (get_or l i 0 ≡ sep → ⊥) → i + place sep (drop i l) ≡ i + 1 + place sep (drop (i + 1) l)
-  unfolding place
-  place_on ne = rw (drop-cons l i 0 more, ne_eqb (get_or l i 0) sep ne, add-one i) (omega arith)
-
-pub place_end : (sep : ℕ) (l : List ℕ) → length l ≡ length l + place sep (drop (length l) l)
+-- The same in std's words.
+pub place_found : (sep : ℕ) (l : List ℕ) → place sep l ≡ position_or_len (λ c. eqb c sep) l
 unfolding place
-place_end sep l = rw (drop-length l, add-zero)
+place_found sep l = is_position_or_len (place sep) (λ c. eqb c sep) refl (λ c l. ap (cond (eqb c sep) 0) (sym (one-add (place sep l)))) l
 
 -- In front of a separator stands the first piece, behind it the others.
 pub pieces_next : (sep : ℕ) (last : List (List ℕ)) (l : List ℕ) → place sep l < length l
@@ -57,7 +51,7 @@ pieces_next sep last (c ∷ l) h = go (eqb c sep) (pieces_next sep last l) h
     go true ih m = refl
     go false ih m = ap (onto c) (ih (omega arith))
 
--- Without a separator all of it is one piece.
+-- Without a separator all of it is one line.
 module _ (sep : ℕ) where
   further : (c : ℕ) (l : List ℕ) (rest : List (List ℕ)) → place sep (c ∷ l) ≡ length (c ∷ l)
       → (place sep l ≡ length l) × (cond (eqb c sep) ([] ∷ rest) (onto c rest) ≡ onto c rest)
@@ -68,14 +62,7 @@ module _ (sep : ℕ) where
       go true h = absurd (omega arith)
       go false h = (omega arith, refl)
 
-  one_word : (l : List ℕ) → place sep l ≡ length l → pieces sep ([] ∷ []) l ≡ l ∷ []
-  unfolding pieces onto
-  one_word [] e = refl
-  one_word (c ∷ l) e =
-      let f = further c l (pieces sep ([] ∷ []) l) e in
-      f.1 ∙ ap (onto c) (one_word l f.0)
-
-  one_line : (c : ℕ) (l : List ℕ) → place sep (c ∷ l) ≡ length (c ∷ l) → pieces sep [] (c ∷ l) ≡ (c ∷ l) ∷ []
+  pub one_line : (c : ℕ) (l : List ℕ) → place sep (c ∷ l) ≡ length (c ∷ l) → pieces sep [] (c ∷ l) ≡ (c ∷ l) ∷ []
   unfolding pieces onto
   one_line c [] e = (further c [] [] e).1
   one_line c (d ∷ l) e =
@@ -94,6 +81,18 @@ placed {sep} {l} {r} e =
     let fits : r ≤ length l = rw e (place_within sep l) in
     record { at = e; within = fits; front = sym (length-take-le r l fits) }
 
+-- The first place where the separator is found, or else the length.
+pub placed_found : {sep : ℕ} {l : List ℕ} {found : Option ℕ} {r : ℕ} → found ≡ position (λ c. eqb c sep) l → r ≡ unwrap_or found (length l) → Placed sep l r
+placed_found {sep} {l} e f =
+    placed (f ∙ rw (e, ← place_found sep l) (go (place sep l) (place_within sep l)))
+  where
+    go : (p : ℕ) → p ≤ length l → unwrap_or (cond (ltb p (length l)) (Some p) None) (length l) ≡ p
+    go p h = by (ltb p (length l)) refl
+      where
+        by : (b : Bool) → ltb p (length l) ≡ b → unwrap_or (cond b (Some p) None) (length l) ≡ p
+        by true t = refl
+        by false t = omega (arith, ltb-false p (length l) t)
+
 pub placed_once : {sep : ℕ} {l : List ℕ} {r r' : ℕ} → Placed sep l r → Placed sep l r' → r ≡ r'
 placed_once x y = x.at ∙ sym y.at
 
@@ -101,18 +100,11 @@ placed_once x y = x.at ∙ sym y.at
 pub lent_from : (k : ℕ) (l : List ℕ) → take (length l - k) (drop k l) ≡ drop k l
 lent_from k l = take_all (length l - k) (drop k l) (rw length-drop (omega arith))
 
--- Behind the separator, as it is lent.
-abbrev pub behind : ℕ → List ℕ → List ℕ
-behind r l = take (length l - (r + 1)) (drop (r + 1) l)
-
-module _ {l : List ℕ} {r : ℕ} (p : Placed (code " ") l r) where
-  pub words_one : r ≡ length l → words_of l ≡ l ∷ []
-  unfolding words_of
-  words_one e = one_word (code " ") l (sym p.at ∙ e)
-
-  pub words_next : (r ≡ length l → ⊥) → words_of l ≡ take r l ∷ words_of (behind r l)
-  unfolding words_of
-  words_next ne = rw (lent_from (r + 1) l, add-one r, p.at) (pieces_next (code " ") ([] ∷ []) l (omega (arith, p.at, p.within)))
+-- A line's words are the parts between its spaces.
+pub words_split : (l : List ℕ) → words_of l ≡ slice_split (λ c. eqb c (code " ")) l
+unfolding words_of pieces onto
+words_split [] = refl
+words_split (c ∷ l) = ap (λ (m : List (List ℕ)). cond (eqb c (code " ")) ([] ∷ m) (onto c m)) (words_split l)
 
 pub lines_none : (l : List ℕ) → length l ≡ 0 → lines_of l ≡ []
 unfolding lines_of pieces

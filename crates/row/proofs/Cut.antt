@@ -32,14 +32,13 @@ kept w hs i = keep (λ x. is_in x hs) (take i w)
 
 -- They stand in the cells, m of them, behind a place for the length.
 pub record Cut (w hs : List ℕ) (i m : ℕ) (row : List ℕ) : Type 0 where
-  pub within : i ≤ length w
   pub most : m ≤ i
   pub many : m ≡ length (kept w hs i)
   pub holds : row ≡ unused ∷ cells (kept w hs i)
 
 pub cut_start : (w hs : List ℕ) → Cut w hs 0 0 (replicate 9 unused)
 unfolding cells kept keep
-cut_start w hs = record { within = omega arith; most = omega arith; many = refl; holds = refl }
+cut_start w hs = record { most = omega arith; many = refl; holds = refl }
 
 module _ {w hs : List ℕ} {i m : ℕ} {row : List ℕ} (so : Cut w hs i m row) where
   module _ (h : i < length w) {m' : ℕ} {row' : List ℕ} where
@@ -48,7 +47,6 @@ module _ {w hs : List ℕ} {i m : ℕ} {row : List ℕ} (so : Cut w hs i m row) 
     cut_more short e er em =
         let one : kept w hs (i + 1) ≡ kept w hs i ++ (get_or w i 0 ∷ []) = rw (keep_next w i h (λ x. is_in x hs), e) in
         record {
-          within = omega arith;
           most = omega (arith, so.most);
           many = em ∙ rw (one, length-append) (omega (arith, so.many));
           holds = er ∙ rw (so.holds, one) (cells_more unused (get_or w i 0) (kept w hs i) m so.many (omega (arith, so.most)));
@@ -59,7 +57,6 @@ module _ {w hs : List ℕ} {i m : ℕ} {row : List ℕ} (so : Cut w hs i m row) 
     cut_same e er em =
         let same : kept w hs (i + 1) ≡ kept w hs i = rw (keep_next w i h (λ x. is_in x hs), e) (append-nil (kept w hs i)) in
         record {
-          within = omega arith;
           most = omega (arith, so.most);
           many = em ∙ rw same so.many;
           holds = er ∙ rw same so.holds;

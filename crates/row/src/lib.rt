@@ -13,41 +13,21 @@ use parts;
 pub fn among(l: &[u8], x: u8) -> bool
     ensures { result ≡ is_in x l.now }
 {
-    let mut i = 0;
-    while i < l.len() {
-        if l[i] == x {
-            return true;
-        }
-        i += 1;
-    }
-    false
+    l.contains(&x)
 }
 
 // Whichever of x and y stands earlier in the row.
 pub fn earlier(l: &[u8], x: u8, y: u8) -> u8
     ensures { result ≡ earlier_of l.now x y }
 {
-    let mut i = 0;
-    while i < l.len() {
-        if l[i] == x {
-            return x;
-        }
-        if l[i] == y {
-            return y;
-        }
-        i += 1;
-    }
-    y
+    l.iter().copied().find(|&z| z == x || z == y).unwrap_or(y)
 }
 
 // Of the loser's head x and the winner's head y: y if x isn't in W, else whichever stands earlier in W.
 pub fn new_head(w: &[u8], x: u8, y: u8) -> u8
     ensures { result ≡ new_head_of w.now x y }
 {
-    if among(w, x) {
-        return earlier(w, x, y);
-    }
-    y
+    if among(w, x) { earlier(w, x, y) } else { y }
 }
 
 // The symbols of a row, where they stand: as many cells as its length byte says.
@@ -55,20 +35,7 @@ pub fn symbols(row: &[u8]) -> &[u8]
     requires { get_or row.now 0 0 < length row.now }
     ensures { Handed row.entry.ref_ptr.0 (row.entry.ref_ptr.1 + 1) (symbols_in row.now) result.ref_ptr result.now }
 {
-    let end = row[0] as usize;
-    &row[1..1 + end]
-}
-
-// FF in every cell from `from` on.
-fn blank(dst: &mut [u8], from: usize)
-    requires { from ≤ length dst.old }
-    ensures { dst.new ≡ take from dst.old ++ replicate (length dst.old - from) unused }
-{
-    let mut i = from;
-    while i < dst.len() {
-        dst[i] = 0xFF;
-        i += 1;
-    }
+    &row[1..=usize::from(row[0])]
 }
 
 // A row into its n + 1 bytes: the length, the symbols, FF in every other cell.
@@ -78,7 +45,7 @@ pub fn write_row(dst: &mut [u8], n: usize, l: &[u8])
 {
     dst[0] = l.len() as u8;
     parts::copy(dst, 1, l);
-    blank(dst, 1 + l.len());
+    dst[1 + l.len()..].fill(0xFF);
 }
 
 // The row w cut down to the symbols that stand in hs, as a row of 8 cells.
@@ -87,14 +54,12 @@ pub fn cut_row(w: &[u8], hs: &[u8]) -> [u8; 9]
     ensures { result ≡ row_bytes 8 (keep (λ x. is_in x hs.now) w.now) }
 {
     let mut row = [0xFF; 9];
-    let mut m: usize = 0;
-    let mut i = 0;
-    while i < w.len() {
-        if among(hs, w[i]) {
+    let mut m = 0;
+    for &s in w {
+        if among(hs, s) {
             m += 1;
-            row[m] = w[i];
+            row[m] = s;
         }
-        i += 1;
     }
     row[0] = m as u8;
     row

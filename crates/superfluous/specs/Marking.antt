@@ -1,19 +1,19 @@
 -- Laws for the loop that marks the superfluous copies one by one. Assumes nothing.
-use Rattle.std.specs.Prelude.{◌≡◌, ◌⊎◌, Bool, true, cond, not, ◌&&◌, eqb}
-use Rattle.std.proofs.Math.Path.{refl, sym, ap}
-use Rattle.std.proofs.Common.{ap₂, ◌∙◌, inl, inr, arith, eqb-true, add-one, pow_mono}
+use Rattle.std.specs.Prelude.{◌≡◌, ◌⊎◌, Bool, true, cond, not, ◌&&◌, eqb, bit_or, ◌*◌, ◌%◌, Ok, Err}
+use Rattle.std.proofs.Math.Path.{refl, ap}
+use Rattle.std.proofs.Common.{◌∙◌, inl, inr, arith, eqb-true, add-one}
 use Rattle.std.proofs.Math.Bool.{false}
-use Prim.Native.Nat.{ℕ, ◌+◌, ◌^◌, ◌≤◌, ◌<◌}
+use Prim.Native.Nat.{ℕ, ◌+◌, ◌^◌, ◌<◌}
 use Rattle.std.proofs.lemmas.Bool.{eqb-false, not-true, not-false}
+use Rattle.std.specs.Int.Bits.{or_shifted_r}
+use lib.Pow.{shl_exact}
 use Rattle.model.specs.Tests.{any_pair}
 use Rattle.model.specs.Steps.{Table, mask_of, is_superfluous}
-use Rattle.facts.specs.Cases.{by_lt, both→, unless→, cond_true, cond_false}
+use Rattle.model.specs.declared.Refusal.{Refusal}
+use Rattle.facts.specs.Cases.{by_lt, both→, unless→}
 use Rattle.facts.specs.Numbers.{any→, none→, →pair, →no_pair, below_next}
-use Rattle.copies.specs.declared.Cover.{Cover}
-use Rattle.copies.specs.Copies.{apart, order, apart_from, covered_by, cover_of}
-use Rattle.copies.specs.Looked.{near, far}
-use Rattle.superfluous.specs.declared.Masked.TheVariants.{Unrelated, Mask}
-use Rattle.superfluous.specs.Mask.{masked, bit_of}
+use Rattle.copies.specs.Copies.{apart, order, apart_from, covered_by, cover_of, cover_ok, cover_err}
+use Rattle.superfluous.specs.Mask.{masked}
 use Rattle.laws.specs.Superfluous.{mask_below}
 use Rattle.laws.specs.Mirror.{unrelated-mirrored}
 
@@ -50,55 +50,40 @@ no_apart_pair n t near = →no_pair n (apart n t) each
 
 -- The first i copies are marked, and none of them is apart from another copy.
 pub record Marking (n : ℕ) (t : Table) (i mask : ℕ) : Type 0 where
-  pub within : i ≤ n
   pub near : (k : ℕ) → k < i → apart_from n t k n ≡ false
   pub marks : mask ≡ mask_of i (is_superfluous n (order n t))
 
-covered_bit : (u v : Bool) (i : ℕ) → u ≡ false → bit_of (cover_of u v) i ≡ cond v (2 ^ i) 0
-covered_bit true v i e = absurd (let w : ◌≡◌ {A = ℕ} 0 1 = cc in omega arith)
-covered_bit false true i e = refl
-covered_bit false false i e = refl
+-- What one copy adds to the mask, in the machine's bits: its own bit, which no copy before it has.
+marked : (i mask : ℕ) → i < 8 → mask < 2 ^ i → (c : Bool) → cond c (bit_or mask (1 * 2 ^ i % 2 ^ 8)) mask ≡ mask + cond c (2 ^ i) 0
+marked i mask less low true = rw (shl_exact {a = 1} 1 i 8 (omega arith) (omega arith), or_shifted_r 1 i mask low) (omega arith)
+marked i mask less low false = omega arith
 
 module _ (n : ℕ) (t : Table) where
   pub marking_start : Marking n t 0 0
   unfolding mask_of
-  marking_start = record { within = omega arith; near = λ k h. absurd (omega arith); marks = refl }
+  marking_start = record { near = λ k h. absurd (omega arith); marks = refl }
 
-  module _ {i mask : ℕ} (so_far : Marking n t i mask) (few : n ≤ 8) where
-    -- A mask of at most eight copies fits a byte.
-    pub mask_fits : i < n → (c : Cover) → mask + bit_of c i < 256
-    mask_fits less c = go c
-      where
-        low : mask < 2 ^ i
-        low = rw so_far.marks (mask_below i (is_superfluous n (order n t)))
+  module _ {i mask : ℕ} (so_far : Marking n t i mask) where
+    -- Copy i is marked by its bit exactly if another copy covers it.
+    pub marking_next : i < 8 → (c : Bool) → Ok c ≡ cover_of (apart_from n t i n) (covered_by n t i n)
+        → Marking n t (i + 1) (cond c (bit_or mask (1 * 2 ^ i % 2 ^ 8)) mask)
+    unfolding mask_of is_superfluous covered_by
+    marking_next less c e =
+        let told = cover_ok (apart_from n t i n) (covered_by n t i n) c e in
+        let low : mask < 2 ^ i = rw so_far.marks (mask_below i (is_superfluous n (order n t))) in
+        record {
+          near = λ k l. below_next (λ j. apart_from n t j n ≡ false) so_far.near told.0 k (omega arith);
+          marks = rw (told.1, add-one i) (marked i mask less low (covered_by n t i n) ∙ ap (λ (m : ℕ). m + cond (covered_by n t i n) (2 ^ i) 0) so_far.marks);
+        }
 
-        high : 2 ^ i ≤ 2 ^ 7
-        high = pow_mono {i = i} {j = 7} (omega arith)
-
-        go : (d : Cover) → mask + bit_of d i < 256
-        go Cover.Unrelated = omega (arith, low, high)
-        go Cover.Covered = omega (arith, low, high)
-        go Cover.Uncovered = omega (arith, low, high)
-
-    module _ (c : Cover) (e : c ≡ cover_of (apart_from n t i n) (covered_by n t i n)) (less : i < n) where
-      pub marking_next : (c ≡ Cover.Unrelated → ⊥) → (b : ℕ) → b ≡ bit_of c i → Marking n t (i + 1) (mask + b)
-      unfolding mask_of is_superfluous covered_by
-      marking_next f b h =
-          let nearby : apart_from n t i n ≡ false = near (apart_from n t i n) (covered_by n t i n) (λ z. f (e ∙ z)) in
-          record {
-            within = omega arith;
-            near = λ k l. below_next (λ j. apart_from n t j n ≡ false) so_far.near nearby k (omega arith);
-            marks = rw (add-one i) (ap₂ ◌+◌ so_far.marks (h ∙ ap (λ (d : Cover). bit_of d i) e ∙ covered_bit (apart_from n t i n) (covered_by n t i n) i nearby));
-          }
-
-      pub marking_apart : c ≡ Cover.Unrelated → Unrelated ≡ masked n t
-      unfolding masked
-      marking_apart z =
-          sym (cond_true Unrelated (Mask (mask_of n (is_superfluous n (order n t)))) (apart_pair n t i less (far (apart_from n t i n) (covered_by n t i n) (sym e ∙ z))))
-
-    pub marking_done : n ≤ i → Mask mask ≡ masked n t
+    -- One copy that is apart from another decides.
+    pub marking_apart : i < n → (r : Refusal) → Err r ≡ cover_of (apart_from n t i n) (covered_by n t i n) → Err r ≡ masked n t
     unfolding masked
-    marking_done over =
-        let all : i ≡ n = omega (arith, so_far.within) in
-        sym (cond_false Unrelated (Mask (mask_of n (is_superfluous n (order n t)))) (no_apart_pair n t (λ k h. so_far.near k (omega arith)))
-        ∙ ap Mask (sym (so_far.marks ∙ ap (λ (m : ℕ). mask_of m (is_superfluous n (order n t))) all)))
+    marking_apart less r e =
+        let told = cover_err (apart_from n t i n) (covered_by n t i n) r e in
+        rw (told.1, apart_pair n t i less told.0) refl
+
+  -- With every copy looked at, the mask is the answer.
+  pub marking_done : {i mask : ℕ} → Marking n t i mask → i ≡ n → Ok mask ≡ masked n t
+  unfolding masked
+  marking_done {mask = mask} l e = let all : Marking n t n mask = rw e at l in rw (no_apart_pair n t all.near, ← all.marks) refl

@@ -1,13 +1,8 @@
--- `read_number`: what is read of the whole word is what is read from i on, behind the value v. Assumes nothing.
-use mathlib.Core.Path.{◌≡◌}
-use Prim.Native.Nat.{◌-◌, ◌≤◌}
-use lib.ListN.{length, drop}
+-- `read_number`: what is read of the whole word is what is read from here on, behind the value v. Assumes nothing.
+use Rattle.std.proofs.Common.{◌≡◌, ◌≤◌, drop}
 use Rattle.lines.specs.Lines.{number_of}
 use Rattle.lines.proofs.Reading.{read_from}
 use Rattle.lines.proofs.read_number.Given as goal
 
-abbrev pub invariant-loop-i : goal.invariant-loop-i
-invariant-loop-i l = (l.i ≤ length l.w) × (l.v ≤ 255) × (number_of l.w ≡ read_from l.v (drop l.i l.w))
-
-abbrev pub decreases-loop-i : goal.decreases-loop-i
-decreases-loop-i l = length l.w - l.i
+abbrev pub invariant-loop-c : goal.invariant-loop-c
+invariant-loop-c l = record { small : l.v ≤ 255; rest : number_of l.w ≡ read_from l.v (drop l.c-index l.w) }

@@ -1,20 +1,14 @@
--- `earlier` scans the row from its front: what the whole says is what the symbols from i on say. Assumes nothing.
-use mathlib.Core.Path.{sym, ◌∙◌}
-use borrow.Author.Rules.{rules}
-use Rattle.row.proofs.Scan.{earlier_first, earlier_second, earlier_later, earlier_end}
+-- `earlier`: the first symbol of the row that is x or y, else y. Assumes nothing.
+use Rattle.std.proofs.Common.{eqb, ◌||◌, rules, tests}
+use Rattle.std.proofs.lemmas.Iterator.{YieldsList-from_slice}
+use Rattle.std.proofs.lemmas.Iterator.Adapters.{option_map_id}
+use Rattle.std.proofs.lemmas.Iterator.Consumers.{YieldsList-from_copied}
+use Rattle.std.proofs.lemmas.Iterator.Search.{find_from_yields_List}
+use Rattle.row.proofs.Scan.{find-earlier}
 use Rattle.row.proofs.earlier.Goals as goal
 
-pub returns-then-l-i : goal.returns-then-l-i
-returns-then-l-i c =
-    sym (c.loop-i.invariant.1 ∙ earlier_first _ _ _ _ c.loop-i-test.true c.if-l-i.true)
-
-pub returns-then-l-i-2 : goal.returns-then-l-i-2
-returns-then-l-i-2 c =
-    sym (c.loop-i.invariant.1 ∙ earlier_second _ _ _ _ c.loop-i-test.true c.if-l-i.false c.if-l-i-2.true)
-
-pub loop-i-preserved : goal.loop-i-preserved
-loop-i-preserved c =
-    (search rules, c.loop-i.invariant.1 ∙ earlier_later _ _ _ _ c.loop-i-test.true c.if-l-i.false c.if-l-i-2.false)
-
 pub returns : goal.returns
-returns c = sym (c.loop-i.invariant.1 ∙ earlier_end _ _ _ _ c.loop-i-test.false)
+returns c =
+    let a = c.args in
+    let first = find_from_yields_List (λ z. eqb z a.x || eqb z a.y) _ _ c.find.result c.find.ensures.ran (YieldsList-from_copied (YieldsList-from_slice a.l.now cc)) (λ z b q k. search (rules, tests)) in
+    rw (c.unwrap_or.ensures, ← option_map_id c.find.result, first) (find-earlier _ _ _)

@@ -6,6 +6,6 @@ pub returns-then-among : goal.returns-then-among
 unfolding new_head_of
 returns-then-among c = rw (← c.among.ensures, c.if-among.true) c.earlier.ensures
 
-pub returns : goal.returns
+pub returns-else-among : goal.returns-else-among
 unfolding new_head_of
-returns c = rw (← c.among.ensures, c.if-among.false)
+returns-else-among c = rw (← c.among.ensures, c.if-among.false)

@@ -1,9 +1,8 @@
 -- `symbols` hands back the cells behind the length byte, as many as it says. Assumes nothing.
-use native.Mathlib.Nat.{add-sub_cancel_left}
-use borrow.Author.Rules.{rules}
+use Rattle.std.proofs.Common.{arith, rules}
 use Rattle.model.specs.Bytes.{symbols_in}
 use Rattle.row.proofs.symbols.Goals as goal
 
 pub returns : goal.returns
 unfolding symbols_in
-returns c = record { within = search rules; at = search rules; bytes = simp add-sub_cancel_left }
+returns c = record { within = search rules; at = search rules; bytes = grind arith }
