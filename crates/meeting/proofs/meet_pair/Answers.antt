@@ -1,4 +1,5 @@
 -- `meet_pair`: a turn writes one new slice into each record. Assumes nothing.
+use Rattle.std.proofs.Common.{arith}
 use Rattle.meeting.specs.Going.{going_start, going_shown, going_next, going_done}
 use Rattle.meeting.proofs.meet_pair.Goals as goal
 
@@ -6,12 +7,11 @@ pub loop-p-init : goal.loop-p-init
 loop-p-init c = going_start _ _ _ _ _
 
 pub met-requires : goal.met-requires
-met-requires c =
-    (going_shown c.requires c.loop-p.invariant, c.loop-p-test.true)
+met-requires c = (going_shown c.requires c.loop-p.invariant, omega arith)
 
 pub loop-p-preserved : goal.loop-p-preserved
 loop-p-preserved c =
-    going_next c.requires c.loop-p.invariant _ _ c.loop-p-test.true c.met.ensures c.put_slice.ensures c.put_slice-in-loop-p.ensures
+    going_next c.requires c.loop-p.invariant _ _ (omega arith) c.met.ensures c.put_slice.ensures c.put_slice-in-loop-p.ensures
 
 pub returns : goal.returns
-returns c = going_done c.requires c.loop-p.invariant c.loop-p-test.false
+returns c = going_done c.requires c.loop-p.invariant (omega arith)
