@@ -19,11 +19,6 @@ unfoldable pub head_marks : ℕ → Slice → ℕ
 head_marks zero s = 0
 head_marks (suc n) s = bit_or (head_marks n s) (2 ^ head (s n))
 
--- One head more, in the code's `k + 1`.
-pub heads_turn : (k : ℕ) (s : Slice) → head_marks (k + 1) s ≡ bit_or (head_marks k s) (2 ^ head (s k))
-unfolding head_marks
-heads_turn k s = rw add-one
-
 -- ---- Their digits, and that they fit
 
 digit_heads : (n : ℕ) (s : Slice) (x : ℕ) → digit (head_marks n s) x ≡ cond (any n (λ k. eqb (head (s k)) x)) 1 0
