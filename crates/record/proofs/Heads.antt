@@ -1,5 +1,5 @@
 -- The word of the heads as code makes it, one bit after another. Assumes nothing.
-use Rattle.std.specs.Prelude.{◌≡◌, [], ◌∷◌, List, ℕ, zero, suc, ◌*◌, ◌%◌, ◌^◌, ◌<◌}
+use Rattle.std.specs.Prelude.{◌≡◌, [], ◌∷◌, ℕ, zero, suc, ◌*◌, ◌%◌, ◌^◌, ◌<◌}
 use Rattle.std.specs.List.{fold, range_with_len}
 use Rattle.std.specs.Int.Bits.{bit_or}
 use Rattle.std.proofs.Common.{refl, ap, ◌∙◌, arith}

@@ -44,7 +44,9 @@ fn slices_formed(r: &[u8], n: usize, own: usize) -> bool
     requires { (n ≤ 8) × (length r.now ≡ record_size n) × (own < n) }
     ensures { result ≡ all n (λ p. slice_is_formed n own (slice_in n r.now p)) }
 {
-    r[4..].chunks_exact(n * (n + 1)).all(|s| slice_formed(s, n, own))
+    r[4..]
+        .chunks_exact(n * (n + 1))
+        .all(|s| slice_formed(s, n, own))
 }
 
 // The mark that every record begins with.
