@@ -2,13 +2,10 @@
 -- written. Assumes nothing.
 use Rattle.std.specs.Prelude.{◌≡◌, List, ℕ, ◌+◌, ◌*◌, ◌≤◌, ◌<◌, take}
 use Rattle.std.proofs.Math.Path.{ap}
-use Rattle.std.proofs.Common.{◌∙◌, arith, length-take}
-use Rattle.std.proofs.Math.ListN.{length}
+use Rattle.std.proofs.Common.{◌∙◌}
 use Rattle.parts.specs.Written.{written}
 use Rattle.model.specs.Steps.{met_record}
 use Rattle.model.specs.Bytes.{header_size, slice_size, slice_bytes, record_bytes, record_rows}
-use Rattle.laws.specs.Layout.{length-slice_bytes}
-use Rattle.laws.specs.RoundTrip.{slice_fits}
 use Rattle.pair.specs.Pair.{PairShown}
 use Rattle.meeting_slice.specs.Met.{MetSlices}
 use Rattle.meeting.specs.Pairs.{WellPair, PairMet, first_met, second_met, pair_shown, first_own_lem, second_own_lem, first_formed, second_formed}
@@ -42,21 +39,6 @@ module _ {n a b p : ℕ} {x y x' y' : List ℕ} (w : WellPair n a b x y) (so : G
         first = h.first ∙ rw (rows_still so.first, rows_still so.second);
         second = h.second ∙ rw (rows_still so.first, rows_still so.second);
       }
-
-  -- Both new slices have a slice's length.
-  pub going_long : {u v : List ℕ} → p < n → MetSlices n a b p (record_rows n x') (record_rows n y') u v
-      → (length (take (slice_size n) u) ≡ slice_size n) × (length (take (slice_size n) v) ≡ slice_size n)
-  unfolding first_met second_met
-  going_long less h = (
-    ap length (going_same h).first ∙ length-slice_bytes n _ (slice_fits ((first_formed w).slice p less)),
-    ap length (going_same h).second ∙ length-slice_bytes n _ (slice_fits ((second_formed w).slice p less)),
-  )
-
-  pub going_room : {u v : List ℕ} → p < n → MetSlices n a b p (record_rows n x') (record_rows n y') u v
-      → (slice_size n ≤ length u) × (slice_size n ≤ length v)
-  going_room {u} {v} less h =
-      let e = going_long less h in
-      (omega (arith, length-take (slice_size n) u, e.0), omega (arith, length-take (slice_size n) v, e.1))
 
   pub going_next : {u v : List ℕ} (after behind : List ℕ) → p < n → MetSlices n a b p (record_rows n x') (record_rows n y') u v
       → after ≡ written (header_size + p * slice_size n) (take (slice_size n) u) x'

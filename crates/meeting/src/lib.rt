@@ -21,13 +21,9 @@ pub fn meet_pair(x: &mut [u8], y: &mut [u8], n: usize, a: usize, b: usize)
     ensures { PairMet n a b x.old y.old x.new y.new }
 {
     let w = n * (n + 1);
-    let mut p = 0;
-    while p < n {
-        let m = meeting_slice::met(x, y, n, a, b, p);
-        let u = m.a;
-        let v = m.b;
+    for p in 0..n {
+        let (u, v) = meeting_slice::met(x, y, n, a, b, p);
         put_slice(x, n, p, &u[..w]);
         put_slice(y, n, p, &v[..w]);
-        p += 1;
     }
 }

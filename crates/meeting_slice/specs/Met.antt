@@ -7,7 +7,6 @@ use Rattle.model.specs.Bytes.{row_size, slice_size, row_bytes, slice_bytes, reco
 use Rattle.facts.specs.Keeping.{keep-length}
 use Rattle.row.specs.Tab.{tab, cut_tab}
 use Rattle.row.proofs.Rows.{row_take}
-use Rattle.laws.specs.Layout.{length_row}
 use Rattle.pair.specs.Pair.{PairShown}
 use Rattle.meeting_slice.specs.NewRows.{winning_length}
 
@@ -31,8 +30,3 @@ module _ {n a b : ℕ} {x y : List ℕ} (shown : PairShown n a b x y) (p : ℕ) 
     where
       cut_fits : length (cut_row_of n a b (record_rows n x p) (record_rows n y p)) ≤ n
       cut_fits = omega (arith, cut_length n a b (record_rows n x p) (record_rows n y p), winning_length shown p less)
-
-  pub cut_wide : length (row_bytes n (cut_row_of n a b (record_rows n x p) (record_rows n y p))) ≡ row_size n
-  cut_wide =
-      length_row n (cut_row_of n a b (record_rows n x p) (record_rows n y p))
-      (omega (arith, cut_length n a b (record_rows n x p) (record_rows n y p), winning_length shown p less))

@@ -1,15 +1,13 @@
 -- One slice of a meeting as code takes it: new heads from the loser's rows and the winner's, new rows as the bytes that are copied; and
 -- that these are document 01's. Assumes nothing.
-use Rattle.std.specs.Prelude.{◌≡◌, true, false, cond, List, ℕ, ◌≤◌, ◌<◌, length, get_or, eqb}
-use Rattle.std.proofs.Common.{eq-eqb, ne_eqb}
+use Rattle.std.specs.Prelude.{◌≡◌, true, false, cond, List, ℕ, ◌≤◌, ◌<◌, length, get_or}
 use Rattle.parts.specs.Parts.{join, join_same}
 use Rattle.model.specs.Tests.{head}
 use Rattle.model.specs.Steps.{Slice, b_is_winner, winning_row, new_head_of, is_named, new_heads_of, cut_row_of, cached_row_of, met_row, met_record}
-use Rattle.model.specs.Bytes.{row_size, row_bytes, slice_bytes, row_in_slice, slice_in, record_rows}
+use Rattle.model.specs.Bytes.{row_bytes, slice_bytes, row_in_slice, slice_in, record_rows}
 use Rattle.facts.specs.Cases.{by_test, cond_has}
 use Rattle.row.specs.Tab.{tab, get_or-tab, tab_same}
-use Rattle.slice.specs.Shown.{SliceShown}
-use Rattle.slice.specs.Places.{row_long, row_of_length, row_whole}
+use Rattle.slice.specs.Places.{row_of_length}
 use Rattle.pair.specs.Pair.{PairShown}
 
 -- ---- New heads
@@ -17,15 +15,6 @@ use Rattle.pair.specs.Pair.{PairShown}
 -- For rows a and b, the head of W. For every other row k, of the loser's head and the winner's.
 unfoldable pub head_from : ℕ → ℕ → List ℕ → Slice → Slice → ℕ → ℕ
 head_from a b w loser winner k = cond (is_named a b k) (head w) (new_head_of w (head (loser k)) (head (winner k)))
-
-pub head_named : (a b : ℕ) (w : List ℕ) (loser winner : Slice) (k : ℕ) → is_named a b k ≡ true → head w ≡ head_from a b w loser winner k
-unfolding head_from
-head_named a b w loser winner k e = rw e
-
-pub head-other : (a b : ℕ) (w : List ℕ) (loser winner : Slice) (k : ℕ) → is_named a b k ≡ false
-    → new_head_of w (head (loser k)) (head (winner k)) ≡ head_from a b w loser winner k
-unfolding head_from
-head-other a b w loser winner k e = rw e
 
 -- These are the new heads: b wins, or a does.
 pub heads_b_wins : (n a b : ℕ) (x y : Slice) → b_is_winner a b x y ≡ true → tab n (head_from a b (winning_row a b x y) x y) ≡ tab n (new_heads_of a b x y)
@@ -50,34 +39,6 @@ winning_length {n} {a} {b} {x} {y} shown p less =
 -- The bytes that are copied: the cut row for rows a and b, else one of the two cached rows.
 unfoldable pub chosen_row : ℕ → ℕ → ℕ → List ℕ → List ℕ → List ℕ → List ℕ → ℕ → List ℕ
 chosen_row n a b own other hs cut k = cond (is_named a b k) cut (row_bytes n (cached_row_of (get_or hs k 0) (row_in_slice n own k) (row_in_slice n other k)))
-
--- The choice between two cached rows: the head didn't change, or it did.
-pub keeps_own : (h : ℕ) (own other : List ℕ) → head own ≡ h → own ≡ cached_row_of h own other
-unfolding cached_row_of
-keeps_own h own other e = rw (eq-eqb (head own) h e)
-
-pub takes_other : (h : ℕ) (own other : List ℕ) → (head own ≡ h → ⊥) → other ≡ cached_row_of h own other
-unfolding cached_row_of
-takes_other h own other e = rw (ne_eqb (head own) h e)
-
-module _ (n a b : ℕ) (own other hs cut : List ℕ) (k : ℕ) where
-  pub chosen_named : is_named a b k ≡ true → cut ≡ chosen_row n a b own other hs cut k
-  unfolding chosen_row
-  chosen_named e = rw e
-
-  pub chosen_other : is_named a b k ≡ false → row_bytes n (cached_row_of (get_or hs k 0) (row_in_slice n own k) (row_in_slice n other k)) ≡ chosen_row n a b own other hs cut k
-  unfolding chosen_row
-  chosen_other e = rw e
-
-  pub chosen_long : SliceShown n own → SliceShown n other → length cut ≡ row_size n → k < n → length (chosen_row n a b own other hs cut k) ≡ row_size n
-  unfolding chosen_row cached_row_of
-  chosen_long so st long less =
-      by_test (is_named a b k)
-      (λ t. rw t long)
-      (λ t. rw t
-      (by_test (eqb (head (row_in_slice n own k)) (get_or hs k 0))
-      (λ q. rw (q, ← row_whole so k less) (row_long so k less))
-      (λ q. rw (q, ← row_whole st k less) (row_long st k less))))
 
 -- With the new heads and the cut row of slice p of records x and y, the rows copied are document 01's.
 pub rows_met : (n a b p : ℕ) (x y own other hs cut : List ℕ) → hs ≡ tab n (new_heads_of a b (record_rows n x p) (record_rows n y p))

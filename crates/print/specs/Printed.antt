@@ -1,9 +1,10 @@
 -- Document 01's 'The program', the printing: an answer in words and decimal numbers, and the line it stands in. Assumes nothing.
-use Rattle.std.specs.Prelude.{List, [], ◌∷◌, ◌++◌, ℕ, get_or}
-use Rattle.model.specs.Answers.{Said, refused, done, ordered, listed, said_done, said_compared, said_listed}
+use Rattle.std.specs.Prelude.{List, [], ◌∷◌, ◌++◌, ℕ, get_or, Result}
+use Rattle.model.specs.Answers.{Said, refused, done, ordered, listed, number_of_order, said}
+use Rattle.model.specs.declared.Refusal.{Refusal}
 use Rattle.print.specs.Text.{ascii, decimal}
 use Rattle.print.specs.declared.Answer.{Answer}
-use Rattle.print.specs.declared.Answer.TheVariants.{Done, Compared, Listed}
+use Rattle.print.specs.declared.Answer.TheVariants.{Done}
 
 -- The comparison's names, in the order of its numbers.
 unfoldable pub order_name : ℕ → List ℕ
@@ -23,8 +24,11 @@ unfoldable pub line_text : ℕ → ℕ → Said → List ℕ
 unfolding answer_text
 line_text k letter a = decimal k ++ (ascii " " ++ (letter ∷ (ascii " " ++ (answer_text a ++ ascii "\n"))))
 
--- What an answer of any of the calls says.
-abbrev pub said_answer : Answer → Said
-said_answer (Done d) = said_done d
-said_answer (Compared c) = said_compared c
-said_answer (Listed l) = said_listed l
+-- What is given of any of the calls says, and what their answer says.
+abbrev pub says_of : Answer → Said
+says_of Done = done
+says_of (Answer.Order o) = ordered (number_of_order o)
+says_of (Answer.Copies c) = listed c.mask c.count
+
+abbrev pub said_answer : Result Answer Refusal → Said
+said_answer = said says_of

@@ -18,7 +18,7 @@ pub put_once : {text : List ℕ} {at : ℕ} {before after after' : List ℕ} {r 
 put_once x y = (x.next ∙ sym y.next, x.bytes ∙ sym y.bytes)
 
 -- One text behind another.
-sets_append : (l : List ℕ) (i : ℕ) (x y : List ℕ) → sets l i (x ++ y) ≡ sets (sets l i x) (i + length x) y
+pub sets_append : (l : List ℕ) (i : ℕ) (x y : List ℕ) → sets l i (x ++ y) ≡ sets (sets l i x) (i + length x) y
 sets_append l i [] y = rw (add-zero i)
 sets_append l i (b ∷ x) y =
     let e : i + suc (length x) ≡ suc i + length x = omega arith in

@@ -1,108 +1,53 @@
 // The rows of one loose record, read. The promise of read_rows cites document 01's definitions of crate model.
 #![tactic(auto)]
 
-ghost use Rattle.std.specs.Prelude.{◌≡◌, [], ◌∷◌};
+ghost use Rattle.std.specs.Prelude.{◌≡◌, ◌≤◌, ◌/◌, ◌%◌, length, true, false, MatchOption};
 ghost use Rattle.model.specs.Bytes.{record_rows};
-ghost use Rattle.model.specs.Calls.{length_given, cells_given, over_room, blank_rows, read_says, read_gives};
+ghost use Rattle.model.specs.Calls.{is_within, rows_given, read_says, read_gives};
 ghost use Rattle.model.specs.Promises.{Read};
 ghost use Rattle.slice.specs.Shown.{RecordShown};
 
-use model::{Done, ReadRows, Rows};
+use model::{Refusal, Rows};
 
-// The length of row k of slice p, 0 beyond N.
-fn length_at(r: &[u8], n: usize, p: usize, k: usize) -> u8
+// Row i of the room: row i % 8 of slice i / 8, if both are below N.
+#[tactic(auto, using(slice::specs::Places::row_of_length), unfolding(model::specs::Calls::is_within))]
+fn room_row(r: &[u8], n: usize, i: usize) -> Option<&[u8]>
     requires { RecordShown n r.now }
-    ensures { length_given n (record_rows n r.now) p k ≡ result ∷ [] }
+    ensures { MatchOption result (is_within n (i / 8) (i % 8) ≡ false) (λ row. (is_within n (i / 8) (i % 8) ≡ true) × (row.now ≡ record_rows n r.now (i / 8) (i % 8)) × (length row.now ≤ 8)) }
 {
-    if n <= p {
-        return 0;
+    let (p, k) = (i / 8, i % 8);
+    if p < n && k < n {
+        Some(slice::row_of(r, n, p, k))
+    } else {
+        None
     }
-    if n <= k {
-        return 0;
-    }
-    slice::row_of(r, n, p, k).len() as u8
 }
 
-// The cells of row k of slice p, FF in the places past its length and beyond N.
-fn cells_at(r: &[u8], n: usize, p: usize, k: usize) -> [u8; 8]
+// All rows of a record, in their room: length 0 beyond N, FF in the places past a row's length and beyond N.
+fn rows_in(r: &[u8], n: usize, own: usize) -> Rows
     requires { RecordShown n r.now }
-    ensures { result ≡ cells_given n (record_rows n r.now) p k }
-{
-    let mut cells = [0xFF; 8];
-    if n <= p {
-        return cells;
-    }
-    if n <= k {
-        return cells;
-    }
-    parts::copy(&mut cells, 0, slice::row_of(r, n, p, k));
-    cells
-}
-
-// The lengths of all rows of the room.
-fn lengths_in(r: &[u8], n: usize) -> [u8; 64]
-    requires { RecordShown n r.now }
-    ensures { result ≡ over_room (length_given n (record_rows n r.now)) }
+    ensures { result ≡ rows_given n own (record_rows n r.now) }
 {
     let mut lengths = [0; 64];
-    let mut i = 0;
-    while i < 64 {
-        lengths[i] = length_at(r, n, i / 8, i % 8);
-        i += 1;
-    }
-    lengths
-}
-
-// The cells of all rows of the room.
-fn cells_in(r: &[u8], n: usize) -> [u8; 512]
-    requires { RecordShown n r.now }
-    ensures { result ≡ over_room (cells_given n (record_rows n r.now)) }
-{
     let mut cells = [0xFF; 512];
-    let mut i = 0;
-    while i < 64 {
-        let row = cells_at(r, n, i / 8, i % 8);
-        parts::copy(&mut cells, i * 8, &row);
-        i += 1;
+    for i in 0..64 {
+        if let Some(row) = room_row(r, n, i) {
+            lengths[i] = row.len() as u8;
+            parts::copy(&mut cells, i * 8, row);
+        }
     }
-    cells
-}
-
-// What stands beside a refusal.
-fn blank() -> Rows
-    ensures { result ≡ blank_rows }
-{
     Rows {
-        n: 0,
-        own: 0,
-        lengths: [0; 64],
-        cells: [0xFF; 512],
+        n,
+        own,
+        lengths,
+        cells,
     }
 }
 
 // Reading of one loose record: its rows, or refusals 1 to 4.
-pub fn read_rows(r: &[u8]) -> ReadRows
+pub fn read_rows(r: &[u8]) -> Result<Rows, Refusal>
     ensures { Read (read_says r.now) (read_gives r.now) result }
 {
-    let answer = record::check_record(r);
-    let Done::Ok = answer else {
-        return ReadRows {
-            answer: answer,
-            rows: blank(),
-        };
-    };
-    let n = r[2] as usize;
-    let own = r[3] as usize;
-    let lengths = lengths_in(r, n);
-    let cells = cells_in(r, n);
-    let rows = Rows {
-        n: n,
-        own: own,
-        lengths: lengths,
-        cells: cells,
-    };
-    ReadRows {
-        answer: Done::Ok,
-        rows: rows,
-    }
+    record::check_record(r)?;
+    Ok(rows_in(r, r[2] as usize, r[3] as usize))
 }

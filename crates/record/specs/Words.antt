@@ -1,7 +1,7 @@
 -- The principal set by two words of 64 bits: the heads of all rows of a slice and the symbols of its principal row are the same set
 -- exactly if their words are equal. Assumes nothing.
-use Rattle.std.specs.Prelude.{◌≡◌, refl, Bool, true, false, cond, ◌||◌, List, [], ◌∷◌, ℕ, zero, suc, ◌*◌, ◌/◌, ◌%◌, ◌^◌, ◌<◌, ◌+◌, eqb}
-use Rattle.std.proofs.Common.{sym, ap, ◌∙◌, inl, inr, pow-suc, mul_comm, add-one, arith, lit<, eqb-true, eq-eqb}
+use Rattle.std.specs.Prelude.{◌≡◌, refl, Bool, true, false, cond, ◌||◌, List, [], ◌∷◌, ℕ, zero, suc, ◌*◌, ◌/◌, ◌%◌, ◌^◌, ◌<◌, eqb}
+use Rattle.std.proofs.Common.{sym, ap, ◌∙◌, inl, inr, pow-suc, mul_comm, arith, lit<, eqb-true, eq-eqb}
 use Rattle.std.proofs.Math.Nat.{div-div-eq-div-mul, zero-div}
 use Rattle.std.specs.Int.Bits.{bit_or}
 use Rattle.model.specs.Tests.{any, head, is_in}
@@ -18,11 +18,6 @@ use Rattle.symbols.proofs.Digits.{digit_mark, digit-marks, mark_fits}
 unfoldable pub head_marks : ℕ → Slice → ℕ
 head_marks zero s = 0
 head_marks (suc n) s = bit_or (head_marks n s) (2 ^ head (s n))
-
--- One head more, in the code's `k + 1`.
-pub heads_turn : (k : ℕ) (s : Slice) → head_marks (k + 1) s ≡ bit_or (head_marks k s) (2 ^ head (s k))
-unfolding head_marks
-heads_turn k s = rw add-one
 
 -- ---- Their digits, and that they fit
 

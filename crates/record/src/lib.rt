@@ -20,14 +20,7 @@ fn rows_formed(s: &[u8], n: usize) -> bool
     requires { (n ≤ 8) × (length s.now ≡ slice_size n) }
     ensures { result ≡ all n (λ k. row_is_formed n (part (row_size n) k s.now)) }
 {
-    let mut k = 0;
-    while k < n {
-        if !symbols::row_formed(parts::part_at(s, n + 1, k), n) {
-            return false;
-        }
-        k += 1;
-    }
-    true
+    s.chunks_exact(n + 1).all(|row| symbols::row_formed(row, n))
 }
 
 // The heads of a slice's rows as the bits of a word.
@@ -35,13 +28,7 @@ fn head_word(s: &[u8], n: usize) -> u64
     requires { RowsPassed n s.now }
     ensures { result ≡ head_marks n (row_in_slice n s.now) }
 {
-    let mut word: u64 = 0;
-    let mut k = 0;
-    while k < n {
-        word |= 1 << slice::head_in(s, n, k);
-        k += 1;
-    }
-    word
+    (0..n).fold(0, |word, k| word | 1 << slice::head_in(s, n, k))
 }
 
 // A slice in bytes: every row, then the principal row, whose symbols are the heads of all rows.
@@ -49,10 +36,7 @@ pub fn slice_formed(s: &[u8], n: usize, own: usize) -> bool
     requires { (n ≤ 8) × (length s.now ≡ slice_size n) × (own < n) }
     ensures { result ≡ slice_is_formed n own s.now }
 {
-    if !rows_formed(s, n) {
-        return false;
-    }
-    head_word(s, n) == symbols::mark(0, slice::row_in(s, n, own))
+    rows_formed(s, n) && head_word(s, n) == symbols::mark(0, slice::row_in(s, n, own))
 }
 
 // Every slice of a record.
@@ -60,14 +44,9 @@ fn slices_formed(r: &[u8], n: usize, own: usize) -> bool
     requires { (n ≤ 8) × (length r.now ≡ record_size n) × (own < n) }
     ensures { result ≡ all n (λ p. slice_is_formed n own (slice_in n r.now p)) }
 {
-    let mut p = 0;
-    while p < n {
-        if !slice_formed(slice::slice_at(r, n, p), n, own) {
-            return false;
-        }
-        p += 1;
-    }
-    true
+    r[4..]
+        .chunks_exact(n * (n + 1))
+        .all(|s| slice_formed(s, n, own))
 }
 
 // The mark that every record begins with.
@@ -101,21 +80,13 @@ pub fn in_range(n: usize) -> bool
 }
 
 // A record of the right size is well formed: its header, then slice by slice.
+#[tactic(auto, unfolding(model::specs::Bytes::copies_in, model::specs::Bytes::own_in, model::specs::Bytes::header_is_formed, model::specs::Bytes::record_is_formed))]
 pub fn record_formed(r: &[u8], n: usize) -> bool
     requires { (2 ≤ n) × (n ≤ 8) × (length r.now ≡ record_size n) }
     ensures { result ≡ record_is_formed n r.now }
 {
-    if !has_mark(r) {
-        return false;
-    }
-    if r[2] as usize != n {
-        return false;
-    }
     let own = r[3] as usize;
-    if n <= own {
-        return false;
-    }
-    slices_formed(r, n, own)
+    has_mark(r) && r[2] as usize == n && own < n && slices_formed(r, n, own)
 }
 
 // How many bytes a record of n copies has.

@@ -1,12 +1,12 @@
 -- Where rows and slices stand: bounds of the sizes for at most eight copies, and what a part of a slice or record reads as.
 -- Assumes nothing.
-use Rattle.std.specs.Prelude.{◌≡◌, refl, List, [], ◌∷◌, ℕ, ◌+◌, ◌*◌, ◌-◌, ◌≤◌, ◌<◌, length, get_or, take, drop}
-use Rattle.std.proofs.Common.{mul-le-mul, arith, take_all}
+use Rattle.std.specs.Prelude.{◌≡◌, refl, List, [], ◌∷◌, ℕ, ◌+◌, ◌*◌, ◌≤◌, ◌<◌, length, get_or, drop}
+use Rattle.std.proofs.Common.{mul-le-mul, arith}
 use Rattle.std.proofs.Math.ListN.{length-drop}
 use Rattle.std.proofs.Math.Seq.{length-take-le}
 use Rattle.parts.specs.Parts.{part, room, length-part}
 use Rattle.model.specs.Tests.{head}
-use Rattle.model.specs.Bytes.{row_size, slice_size, record_size, symbols_in, row_in_slice, record_rows, row_bytes}
+use Rattle.model.specs.Bytes.{row_size, symbols_in, row_in_slice, record_rows, row_bytes}
 use Rattle.slice.specs.Shown.{SliceShown, RecordShown}
 
 -- The sizes for at most eight copies.
@@ -23,13 +23,6 @@ sizes n few =
     let body : n * (n * (n + 1)) ≤ 8 * 72 = mul-le-mul few slice in
     let whole : 4 + n * (n * (n + 1)) ≤ 580 = omega arith in
     record { slice = slice; record_body = body; table = mul-le-mul few whole; symbols = mul-le-mul few few }
-
--- What stands behind the header of a record.
-pub body : (n : ℕ) (r : List ℕ) → length r ≡ record_size n → length (drop 4 r) ≡ n * slice_size n
-body n r long = rw length-drop (omega arith)
-
-pub behind-header : (r : List ℕ) → take (length r - 4) (drop 4 r) ≡ drop 4 r
-behind-header r = take_all (length r - 4) (drop 4 r) (rw length-drop (omega arith))
 
 -- The first element of a row is its head.
 pub head_first : (l : List ℕ) → get_or l 0 0 ≡ head l

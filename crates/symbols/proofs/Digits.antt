@@ -2,17 +2,17 @@
 -- them. Assumes nothing.
 use mathlib.Core.Path.{◌≡◌, refl, ◌∙◌}
 use mathlib.Core.Bool.{Bool, true, false, cond, ◌||◌}
+use mathlib.Core.Logic.{inl, inr}
 use mathlib.Core.List.{List, [], ◌∷◌, ◌++◌}
-use Prim.Native.Nat.{ℕ, zero, suc, ◌+◌, ◌*◌, ◌/◌, ◌%◌, ◌^◌, ◌≤◌, ◌<◌, max}
+use Prim.Native.Nat.{ℕ, zero, suc, ◌*◌, ◌/◌, ◌%◌, ◌^◌, ◌≤◌, ◌<◌, max}
 use native.Mathlib.Nat.{pow-suc, mul-le-mul, mul-div-mul_right, div-eq_of_lt, one-mul}
 use native.Mathlib.Omega.{arith}
-use lib.ListN.{length, get_or, drop, drop_of_length-le}
+use Rattle.std.specs.List.{fold}
 use lib.Dec.{lit<, eqb, eqb-zero-suc, eqb-suc-zero, eqb-suc-suc}
 use lib.Bits.{bit_and, bit_or, or_shr, or_step, or_lt, and_mask}
 use lib.Pow.{pow-lt, shl_exact}
 use Rattle.model.specs.Tests.{is_in}
-use Rattle.facts.specs.Turns.{rest}
-use Rattle.symbols.specs.Marks.{digit, marks}
+use Rattle.symbols.specs.Marks.{digit, marks, Below}
 
 -- ---- Code
 
@@ -72,12 +72,8 @@ unfolding marks
 marks-append w [] m = refl
 marks-append w (x ∷ l) m = marks-append (bit_or w (2 ^ x)) l m
 
--- The row from place i on, in the code's `i + 1`.
-module _ (w : ℕ) (l : List ℕ) (i : ℕ) where
-  pub mark_next : i < length l → marks w (drop i l) ≡ marks (bit_or w (2 ^ get_or l i 0)) (drop (i + 1) l)
-  unfolding marks
-  mark_next h = rw (rest l i h)
-
-  pub mark_end : length l ≤ i → marks w (drop i l) ≡ w
-  unfolding marks
-  mark_end h = rw (drop_of_length-le l h)
+-- The library's fold over the row sets the same bits.
+pub fold-marks : (w : ℕ) (l : List ℕ) → Below 64 l → fold (λ (a x : ℕ). bit_or a (1 * 2 ^ x % 2 ^ 64)) w l ≡ marks w l
+unfolding marks
+fold-marks w [] low = refl
+fold-marks w (x ∷ l) low = rw (make_bit x (low x (inl refl))) (fold-marks (bit_or w (2 ^ x)) l (λ y i. low y (inr i)))

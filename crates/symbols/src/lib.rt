@@ -2,9 +2,8 @@
 // definitions of crate model.
 #![tactic(auto)]
 
-ghost use Rattle.std.specs.Prelude.{◌≡◌, ◌+◌, ◌≤◌, length, eqb};
-ghost use Rattle.model.specs.Tests.{every};
-ghost use Rattle.model.specs.Bytes.{unused as unused_cell, symbols_are_formed, row_is_formed};
+ghost use Rattle.std.specs.Prelude.{◌≡◌, ◌+◌, ◌≤◌, length};
+ghost use Rattle.model.specs.Bytes.{symbols_are_formed, row_is_formed};
 ghost use Rattle.symbols.specs.Marks.{Below, marks};
 
 use row;
@@ -16,17 +15,11 @@ pub fn symbols_formed(l: &[u8], n: usize) -> bool
 {
     let limit = (n * n) as u8;
     let mut seen: u64 = 0;
-    let mut i = 0;
-    while i < l.len() {
-        let x = l[i];
-        if limit <= x {
-            return false;
-        }
-        if (seen >> x) & 1 == 1 {
+    for &x in l {
+        if limit <= x || (seen >> x) & 1 == 1 {
             return false;
         }
         seen |= 1 << x;
-        i += 1;
     }
     true
 }
@@ -36,27 +29,7 @@ pub fn mark(w: u64, l: &[u8]) -> u64
     requires { Below 64 l.now }
     ensures { result ≡ marks w l.now }
 {
-    let mut all = w;
-    let mut i = 0;
-    while i < l.len() {
-        all |= 1 << l[i];
-        i += 1;
-    }
-    all
-}
-
-// Every cell is FF.
-fn all_unused(l: &[u8]) -> bool
-    ensures { result ≡ every (λ x. eqb x unused_cell) l.now }
-{
-    let mut i = 0;
-    while i < l.len() {
-        if l[i] != 0xFF {
-            return false;
-        }
-        i += 1;
-    }
-    true
+    l.iter().fold(w, |all, &x| all | 1 << x)
 }
 
 // A row in bytes: its length byte, its symbols, FF in the unused cells.
@@ -64,15 +37,8 @@ pub fn row_formed(row: &[u8], n: usize) -> bool
     requires { (n ≤ 8) × (length row.now ≡ n + 1) }
     ensures { result ≡ row_is_formed n row.now }
 {
-    let m = row[0] as usize;
-    if m < 1 {
-        return false;
-    }
-    if n < m {
-        return false;
-    }
-    if !symbols_formed(row::symbols(row), n) {
-        return false;
-    }
-    all_unused(&row[1 + m..n + 1])
+    let m = usize::from(row[0]);
+    (1..=n).contains(&m)
+        && symbols_formed(row::symbols(row), n)
+        && row[1 + m..].iter().all(|&x| x == 0xFF)
 }

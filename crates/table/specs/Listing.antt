@@ -1,42 +1,32 @@
 -- What the mask of the superfluous copies says, as the call's last reason and its answer. Assumes nothing.
-use Rattle.std.proofs.Math.Path.{◌≡◌, refl}
-use Rattle.std.proofs.Common.{◌∙◌, arith}
-use Rattle.std.specs.Prelude.{Bool, cond, List, [], ◌∷◌, ℕ}
-use Rattle.std.proofs.Math.Bool.{true, false}
+use Rattle.std.specs.Prelude.{◌≡◌, refl, Bool, true, false, cond, List, [], ◌∷◌, ℕ, Ok, Err}
+use Rattle.std.proofs.Common.{ap, ◌∙◌}
 use Rattle.std.specs.Int.Count.{ones}
 use Rattle.model.specs.Tests.{any_pair}
-use Rattle.model.specs.Answers.{refused, listed, refuse, answer}
+use Rattle.model.specs.Answers.{said, refused, listed, refuse, answer, number_of_refusal}
 use Rattle.model.specs.Bytes.{copies_in, table_rows}
 use Rattle.model.specs.Calls.{unrelated_copies, copy_order, superfluous_mask_of}
-use Rattle.facts.specs.Cases.{cond_true, cond_false}
+use Rattle.model.specs.declared.Refusal.{Refusal}
+use Rattle.model.specs.declared.Refusal.TheVariants.{UnrelatedSlice}
 use Rattle.copies.specs.Copies.{apart, order}
-use Rattle.superfluous.specs.declared.Masked.TheVariants.{Unrelated, Mask}
 use Rattle.superfluous.specs.Mask.{masked}
 
 module _ (t : List ℕ) where
-  -- The mask, or that some pair is unrelated, on the bytes of a table.
-  listing : masked (copies_in t) (table_rows (copies_in t) t) ≡ cond (any_pair (copies_in t) (unrelated_copies t)) Unrelated (Mask (superfluous_mask_of t))
-  unfolding masked apart order unrelated_copies copy_order superfluous_mask_of
-  listing = refl
-
-  pub listing_refused : Unrelated ≡ masked (copies_in t) (table_rows (copies_in t) t)
-      → refused 7 ≡ answer (refuse (any_pair (copies_in t) (unrelated_copies t)) 7 ∷ []) (listed (superfluous_mask_of t) (ones (superfluous_mask_of t)))
-  unfolding answer
-  listing_refused e = go (any_pair (copies_in t) (unrelated_copies t)) refl
+  listing : said (λ m. listed m (ones m)) (masked (copies_in t) (table_rows (copies_in t) t))
+      ≡ answer (refuse (any_pair (copies_in t) (unrelated_copies t)) 7 ∷ []) (listed (superfluous_mask_of t) (ones (superfluous_mask_of t)))
+  unfolding masked apart order unrelated_copies copy_order superfluous_mask_of answer
+  listing = go (any_pair (copies_in t) (unrelated_copies t))
     where
-      go : (u : Bool) → any_pair (copies_in t) (unrelated_copies t) ≡ u
-          → refused 7 ≡ answer (refuse (any_pair (copies_in t) (unrelated_copies t)) 7 ∷ []) (listed (superfluous_mask_of t) (ones (superfluous_mask_of t)))
-      go true h = rw h
-      go false h = absurd (let z : ◌≡◌ {A = ℕ} 0 1 = cc (e ∙ listing ∙ cond_false Unrelated (Mask (superfluous_mask_of t)) h) in omega arith)
+      go : (u : Bool)
+          → said (λ m. listed m (ones m)) (cond u (Err UnrelatedSlice) (Ok (superfluous_mask_of t)))
+          ≡ answer (refuse u 7 ∷ []) (listed (superfluous_mask_of t) (ones (superfluous_mask_of t)))
+      go true = refl
+      go false = refl
 
-  pub listing_mask : (m : ℕ) → Mask m ≡ masked (copies_in t) (table_rows (copies_in t) t)
+  pub listing_refused : (r : Refusal) → Err r ≡ masked (copies_in t) (table_rows (copies_in t) t)
+      → refused (number_of_refusal r) ≡ answer (refuse (any_pair (copies_in t) (unrelated_copies t)) 7 ∷ []) (listed (superfluous_mask_of t) (ones (superfluous_mask_of t)))
+  listing_refused r e = ap (said (λ m. listed m (ones m))) e ∙ listing
+
+  pub listing_mask : (m : ℕ) → Ok m ≡ masked (copies_in t) (table_rows (copies_in t) t)
       → listed m (ones m) ≡ answer (refuse (any_pair (copies_in t) (unrelated_copies t)) 7 ∷ []) (listed (superfluous_mask_of t) (ones (superfluous_mask_of t)))
-  unfolding answer
-  listing_mask m e = go (any_pair (copies_in t) (unrelated_copies t)) refl
-    where
-      go : (u : Bool) → any_pair (copies_in t) (unrelated_copies t) ≡ u
-          → listed m (ones m) ≡ answer (refuse (any_pair (copies_in t) (unrelated_copies t)) 7 ∷ []) (listed (superfluous_mask_of t) (ones (superfluous_mask_of t)))
-      go true h = absurd (let z : ◌≡◌ {A = ℕ} 0 1 = cc (e ∙ listing ∙ cond_true Unrelated (Mask (superfluous_mask_of t)) h) in omega arith)
-      go false h =
-          let same : m ≡ superfluous_mask_of t = cc (e ∙ listing ∙ cond_false Unrelated (Mask (superfluous_mask_of t)) h) in
-          rw (h, same)
+  listing_mask m e = ap (said (λ m. listed m (ones m))) e ∙ listing

@@ -9,129 +9,84 @@ ghost use Rattle.model.specs.Answers.{said_done, said_compared, said_listed, ord
 ghost use Rattle.model.specs.Bytes.{table_size, copies_in, table_is_formed};
 ghost use Rattle.model.specs.Calls.{check_says, compare_says, unrelated_copies, copy_order, lend_says, lend_gives, lend_place, superfluous_says, superfluous_mask_of};
 ghost use Rattle.model.specs.Promises.{Owed};
-ghost use Rattle.laws.specs.WellFormed.{WellTable};
+ghost use Rattle.table.specs.Checked.{copy_is_formed};
 
-use copies;
-use model::{Compared, Done, Listed, Refusal};
-use superfluous::Masked;
+use model::{Copies, Order, Refusal};
+
+// Record c of a table is well formed and has own number c.
+#[tactic(auto, unfolding(model::specs::Bytes::own_in), using(crate::proofs::Ranged::record_sizes))]
+fn copy_formed(t: &[u8], n: usize, c: usize) -> bool
+    requires { (2 ≤ n) × (n ≤ 8) × (length t.now ≡ table_size n) × (c < n) }
+    ensures { result ≡ copy_is_formed n t.now c }
+{
+    let r = copies::record_at(t, n, c);
+    r[3] as usize == c && record::record_formed(r, n)
+}
 
 // Each record of a table is well formed, and record i has own number i.
 fn records_formed(t: &[u8], n: usize) -> bool
     requires { (2 ≤ n) × (n ≤ 8) × (length t.now ≡ table_size n) }
     ensures { result ≡ table_is_formed n t.now }
 {
-    let mut c = 0;
-    while c < n {
-        let r = copies::record_at(t, n, c);
-        if r[3] as usize != c {
-            return false;
-        }
-        if !record::record_formed(r, n) {
-            return false;
-        }
-        c += 1;
-    }
-    true
+    (0..n).all(|c| copy_formed(t, n, c))
 }
 
 // Check of a table: refusals 1 to 4.
-pub fn check(t: &[u8]) -> Done
+#[tactic(auto, unfolding(model::specs::Answers::answer, model::specs::Bytes::copies_in, model::specs::Calls::form_reasons, model::specs::Calls::table_reasons, model::specs::Calls::check_says, record::specs::Told::header_reasons))]
+pub fn check(t: &[u8]) -> Result<(), Refusal>
     ensures { Owed (check_says t.now) [] (said_done result) [] }
 {
-    if t.len() < 4 {
-        return Done::Refused(Refusal::Unmarked);
-    }
-    if !record::has_mark(t) {
-        return Done::Refused(Refusal::Unmarked);
-    }
-    let n = t[2] as usize;
-    if !record::in_range(n) {
-        return Done::Refused(Refusal::WrongN);
-    }
-    if t.len() != n * (4 + n * (n * (n + 1))) {
-        return Done::Refused(Refusal::WrongLength);
+    let n = record::copies_told(t)?;
+    if t.len() != n * record::record_len(n) {
+        return Err(Refusal::WrongLength);
     }
     if !records_formed(t, n) {
-        return Done::Refused(Refusal::NotWellFormed);
+        return Err(Refusal::NotWellFormed);
     }
-    Done::Ok
+    Ok(())
 }
 
-// The comparison behind the check: refusals 5 and 7.
-fn compare_checked(t: &[u8], a: usize, b: usize) -> Compared
-    requires { WellTable (copies_in t.now) t.now }
-    ensures { said_compared result ≡ answer (refuse (leb (copies_in t.now) a || leb (copies_in t.now) b) 5 ∷ refuse (unrelated_copies t.now a b) 7 ∷ []) (ordered (number_of_order (copy_order t.now a b))) }
+// Comparison of copies a and b: refusals 1 to 4, then 5, 7.
+pub fn compare(t: &[u8], a: usize, b: usize) -> Result<Order, Refusal>
+    ensures { Owed (compare_says t.now a b) [] (said_compared result) [] }
 {
+    check(t)?;
     let n = t[2] as usize;
-    if n <= a {
-        return Compared::Refused(Refusal::NoSuchCopy);
-    }
-    if n <= b {
-        return Compared::Refused(Refusal::NoSuchCopy);
+    if n <= a || n <= b {
+        return Err(Refusal::NoSuchCopy);
     }
     copies::compare_copies(t, n, a, b)
 }
 
-// Comparison of copies a and b: refusals 1 to 4, then 5, 7.
-pub fn compare(t: &[u8], a: usize, b: usize) -> Compared
-    ensures { Owed (compare_says t.now a b) [] (said_compared result) [] }
-{
-    let d = check(t);
-    match d {
-        Done::Refused(r) => Compared::Refused(r),
-        Done::Ok => compare_checked(t, a, b),
-    }
-}
-
 // The number of a lending: refusals 1 to 4, then 5.
-pub fn lend_number(t: &[u8], i: usize) -> Done
+pub fn lend_number(t: &[u8], i: usize) -> Result<(), Refusal>
     ensures { Owed (lend_says t.now i) [] (said_done result) [] }
 {
-    let d = check(t);
-    let Done::Ok = d else {
-        return d;
-    };
+    check(t)?;
     if t[2] as usize <= i {
-        return Done::Refused(Refusal::NoSuchCopy);
+        return Err(Refusal::NoSuchCopy);
     }
-    Done::Ok
+    Ok(())
 }
 
 // Lending record i: that part of the table, or the empty part where lend_number refuses.
 pub fn lend(t: &[u8], i: usize) -> &[u8]
     ensures { Handed t.entry.ref_ptr.0 (t.entry.ref_ptr.1 + lend_place t.now i) (lend_gives t.now i) result.ref_ptr result.now }
 {
-    let d = lend_number(t, i);
-    let Done::Ok = d else {
+    if lend_number(t, i).is_err() {
         return &t[..0];
-    };
-    let n = t[2] as usize;
-    copies::record_at(t, n, i)
-}
-
-// The superfluous copies behind the check: refusal 7 of any pair, else mask and count.
-fn list_checked(t: &[u8]) -> Listed
-    requires { WellTable (copies_in t.now) t.now }
-    ensures { said_listed result ≡ answer (refuse (any_pair (copies_in t.now) (unrelated_copies t.now)) 7 ∷ []) (listed (superfluous_mask_of t.now) (ones (superfluous_mask_of t.now))) }
-{
-    let n = t[2] as usize;
-    let m = superfluous::superfluous_mask(t, n);
-    let Masked::Mask(mask) = m else {
-        return Listed::Refused(Refusal::UnrelatedSlice);
-    };
-    Listed::Copies {
-        mask: mask,
-        count: u8::count_ones(mask) as u8,
     }
+    copies::record_at(t, t[2] as usize, i)
 }
 
 // The list of superfluous copies: refusals 1 to 4, then 7 of any pair.
-pub fn list_superfluous(t: &[u8]) -> Listed
+pub fn list_superfluous(t: &[u8]) -> Result<Copies, Refusal>
     ensures { Owed (superfluous_says t.now) [] (said_listed result) [] }
 {
-    let d = check(t);
-    match d {
-        Done::Refused(r) => Listed::Refused(r),
-        Done::Ok => list_checked(t),
-    }
+    check(t)?;
+    let mask = superfluous::superfluous_mask(t, t[2] as usize)?;
+    Ok(Copies {
+        mask,
+        count: mask.count_ones() as u8,
+    })
 }

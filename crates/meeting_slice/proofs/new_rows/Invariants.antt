@@ -1,11 +1,10 @@
--- `meeting_slice::new_rows` meets its contract. The invariant: the first k new rows stand one behind another. Assumes nothing.
-use Prim.Native.Nat.{◌-◌}
+-- `new_rows`: the first k new rows stand one behind another. Assumes nothing.
+use Rattle.std.proofs.Common.{◌≡◌, ◌*◌, take}
+use Rattle.parts.specs.Parts.{join}
+use Rattle.model.specs.Bytes.{row_size}
 use Rattle.meeting_slice.specs.NewRows.{chosen_row}
-use Rattle.meeting_slice.proofs.Filled.{Rowed}
 use Rattle.meeting_slice.proofs.new_rows.Given as goal
 
 abbrev pub invariant-loop-k : goal.invariant-loop-k
-invariant-loop-k l = Rowed l.n (chosen_row l.n l.a l.b l.own l.other l.hs l.cut) l.k l.rows
-
-abbrev pub decreases-loop-k : goal.decreases-loop-k
-decreases-loop-k l = l.n - l.k
+invariant-loop-k l =
+    take (l.k * row_size l.n) l.rows ≡ join l.k (chosen_row l.n l.a l.b l.own l.other l.heads l.cut)

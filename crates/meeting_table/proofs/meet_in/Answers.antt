@@ -1,73 +1,88 @@
--- `meeting_table::meet_in` meets its contract. The invariant: the slices below p of records a and b are the new ones, and every other
--- record is as it was. Assumes nothing.
-use native.Mathlib.Omega.{arith}
-use Rattle.slice.specs.Places.{sizes}
-use Rattle.meeting_table.specs.InTable.{table_start, table_long, table_shown, table_wide, table_room, table_between, table_next, table_done}
+-- `meet_in`: both records are lent at once, and come back met. Assumes nothing.
+use Rattle.std.proofs.Common.{◌≡◌, ◌∙◌, ◌<◌, arith, length-take}
+use Rattle.parts.specs.Parts.{part}
+use Rattle.model.specs.Bytes.{record_size, record_in}
+use Rattle.meeting.specs.Pairs.{PairMet}
+use Rattle.meeting_table.specs.Named.{named_pair}
+use Rattle.meeting_table.proofs.Lent.{lower_part, lent_two}
+use Rattle.meeting_table.proofs.InTable.{fits, first_long, second_long, second_over_first, first_over_second}
 use Rattle.meeting_table.proofs.meet_in.Goals as goal
 
-pub overflow_add-w : goal.overflow_add-w
-overflow_add-w c = omega (arith, c.requires.well.most)
+pub slice_bounds-upper-end-2 : goal.slice_bounds-upper-end-2
+slice_bounds-upper-end-2 c =
+    let back = rw c.record_len-size.ensures at c.split_at_mut-front.ensures.back_len in
+    rw (c.record_len-size.ensures, length-take) (omega (arith, fits c.requires c.max.result (omega arith)))
 
-pub overflow_mul-w : goal.overflow_mul-w
-overflow_mul-w c = omega (arith, sizes c.args.n c.requires.well.most)
-
-pub loop-p-init : goal.loop-p-init
-loop-p-init c = table_start _ _ _ _
-
-pub met_in-m-requires : goal.met_in-m-requires
-met_in-m-requires c =
-    let w = c.requires in
-    (table_long w c.loop-p.invariant, table_shown w c.loop-p.invariant, c.loop-p-test.true)
-
-pub slice_bounds-u-end : goal.slice_bounds-u-end
-slice_bounds-u-end c =
-    omega (arith, table_room c.requires c.loop-p.invariant c.loop-p-test.true c.met_in-m.ensures)
-
-pub slice_bounds-put_in-end : goal.slice_bounds-put_in-end
-slice_bounds-put_in-end c =
-    omega (arith, table_wide c.requires c.loop-p.invariant c.loop-p-test.true c.met_in-m.ensures)
-
-pub put_in-requires : goal.put_in-requires
-put_in-requires c =
-    let w = c.requires in
-    omega (
-      arith,
-      w.well.most,
-      w.first,
-      w.second,
-      c.loop-p-test.true,
-      table_long w c.loop-p.invariant,
-      table_wide w c.loop-p.invariant c.loop-p-test.true c.met_in-m.ensures,
+pub meet_pair-requires : goal.meet_pair-requires
+unfolding record_in part
+meet_pair-requires c =
+    let a = c.args in
+    let low : c.min.result ≡ a.a = omega arith in
+    let high : c.max.result ≡ a.b = omega arith in
+    rw (
+      c.split_at_mut-front.ensures.front,
+      c.split_at_mut-front.ensures.back,
+      low,
+      high,
+      c.record_len-size.ensures,
+      lower_part (record_size a.n) a.t.now c.if-a-b.true (fits c.requires a.b c.requires.second),
     )
+    (named_pair c.requires)
 
-pub slice_bounds-v-end : goal.slice_bounds-v-end
-slice_bounds-v-end c =
-    omega (arith, table_room c.requires c.loop-p.invariant c.loop-p-test.true c.met_in-m.ensures)
-
-pub slice_bounds-put_in-end-in-loop-p : goal.slice_bounds-put_in-end-in-loop-p
-slice_bounds-put_in-end-in-loop-p c =
-    omega (arith, table_wide c.requires c.loop-p.invariant c.loop-p-test.true c.met_in-m.ensures)
-
-pub put_in-requires-in-loop-p : goal.put_in-requires-in-loop-p
-put_in-requires-in-loop-p c =
-    let w = c.requires in
-    omega (
-      arith,
-      w.well.most,
-      w.first,
-      w.second,
-      c.loop-p-test.true,
-      table_between w c.loop-p.invariant c.loop-p-test.true c.met_in-m.ensures c.put_in.new.t c.put_in.ensures,
-      table_wide w c.loop-p.invariant c.loop-p-test.true c.met_in-m.ensures,
+pub meet_pair-requires-else-a-b : goal.meet_pair-requires-else-a-b
+unfolding record_in part
+meet_pair-requires-else-a-b c =
+    let a = c.args in
+    let low : c.min.result ≡ a.b = omega arith in
+    let high : c.max.result ≡ a.a = omega arith in
+    let less : a.b < a.a = omega arith in
+    rw (
+      c.split_at_mut-front.ensures.front,
+      c.split_at_mut-front.ensures.back,
+      low,
+      high,
+      c.record_len-size.ensures,
+      lower_part (record_size a.n) a.t.now less (fits c.requires a.a c.requires.first),
     )
+    (named_pair c.requires)
 
-pub loop-p-preserved : goal.loop-p-preserved
-loop-p-preserved c =
-    table_next c.requires c.loop-p.invariant c.loop-p-test.true c.met_in-m.ensures c.put_in.new.t c.put_in-in-loop-p.new.t
-    c.put_in.ensures c.put_in-in-loop-p.ensures
+pub returns-then-a-b : goal.returns-then-a-b
+unfolding record_in part
+returns-then-a-b c =
+    let a = c.args in
+    let low : c.min.result ≡ a.a = omega arith in
+    let high : c.max.result ≡ a.b = omega arith in
+    let room = fits c.requires a.b c.requires.second in
+    let met : PairMet a.n a.a a.b (record_in a.n a.t.now a.a) (record_in a.n a.t.now a.b) c.meet_pair.new.x c.meet_pair.new.y =
+    rw (
+      c.split_at_mut-front.ensures.front,
+      c.split_at_mut-front.ensures.back,
+      low,
+      high,
+      c.record_len-size.ensures,
+      lower_part (record_size a.n) a.t.now c.if-a-b.true room,
+    ) at c.meet_pair.ensures in
+    rw (c.split_at_mut-front.ensures.front, c.split_at_mut-front.ensures.back, low, high, c.record_len-size.ensures)
+    (lent_two (record_size a.n) a.t.now c.if-a-b.true room _ _ (first_long c.requires met) (second_long c.requires met)
+    ∙ second_over_first c.requires met)
 
-pub shape_of-t : goal.shape_of-t
-shape_of-t c = c.loop-p.invariant.long
-
-pub returns : goal.returns
-returns c = table_done c.requires c.loop-p.invariant c.loop-p-test.false
+pub returns-else-a-b : goal.returns-else-a-b
+unfolding record_in part
+returns-else-a-b c =
+    let a = c.args in
+    let low : c.min.result ≡ a.b = omega arith in
+    let high : c.max.result ≡ a.a = omega arith in
+    let less : a.b < a.a = omega arith in
+    let room = fits c.requires a.a c.requires.first in
+    let met : PairMet a.n a.a a.b (record_in a.n a.t.now a.a) (record_in a.n a.t.now a.b) c.meet_pair-else-a-b.new.x c.meet_pair-else-a-b.new.y =
+    rw (
+      c.split_at_mut-front.ensures.front,
+      c.split_at_mut-front.ensures.back,
+      low,
+      high,
+      c.record_len-size.ensures,
+      lower_part (record_size a.n) a.t.now less room,
+    ) at c.meet_pair-else-a-b.ensures in
+    rw (c.split_at_mut-front.ensures.front, c.split_at_mut-front.ensures.back, low, high, c.record_len-size.ensures)
+    (lent_two (record_size a.n) a.t.now less room _ _ (second_long c.requires met) (first_long c.requires met)
+    ∙ first_over_second c.requires met)

@@ -7,11 +7,11 @@ use Rattle.print.proofs.put_copies.Goals as goal
 
 pub put-then-requires : goal.put-then-requires
 put-then-requires c =
-    omega (arith, c.put_number-next.ensures.next, decimal_few 3 c.args.mask (omega arith) (omega arith))
+    omega (arith, c.put_number-next.ensures.next, decimal_few 3 c.args.x.mask (omega arith) (omega arith))
 
 pub put_number-requires : goal.put_number-requires
 put_number-requires c =
-    omega (arith, c.put-then.ensures.next, c.put_number-next.ensures.next, decimal_few 3 c.args.mask (omega arith) (omega arith))
+    omega (arith, c.put-then.ensures.next, c.put_number-next.ensures.next, decimal_few 3 c.args.x.mask (omega arith) (omega arith))
 
 pub returns : goal.returns
 unfolding answer_text
@@ -22,7 +22,7 @@ returns c = (
     c.put_number-next.ensures.next,
     c.put-then.ensures.next,
     c.put_number.ensures.next,
-    decimal_few 3 c.args.mask (omega arith) (omega arith),
-    decimal_few 3 c.args.count (omega arith) (omega arith),
+    decimal_few 3 c.args.x.mask (omega arith) (omega arith),
+    decimal_few 3 c.args.x.count (omega arith) (omega arith),
   ),
 )

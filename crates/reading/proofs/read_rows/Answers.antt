@@ -1,38 +1,23 @@
 -- `read_rows`: the check decides; a record that passed it is read row by row. Assumes nothing.
-use native.Mathlib.Omega.{arith}
+use Rattle.std.proofs.Common.{sym, arith}
 use Rattle.model.specs.Bytes.{copies_in, own_in}
-use Rattle.record.specs.Passed.{record_shown}
-use Rattle.reading.proofs.Answered.{read_refused, read_passed, read_done}
+use Rattle.record.specs.Passed.{check-passed, record_shown}
+use Rattle.reading.proofs.Read.{read_refused, read_done}
 use Rattle.reading.proofs.read_rows.Goals as goal
 
-pub returns-in_default : goal.returns-in_default
-returns-in_default c =
-    read_refused _ c.check_record-answer.result c.check_record-answer.ensures.answers c.in_default.field-0 _ c.in_default.is c.blank.ensures
+pub returns-in_err-check_record : goal.returns-in_err-check_record
+returns-in_err-check_record c = read_refused _ _ _ c.from_residual.ensures.1 c.in_err-check_record.ensures.answers
 
 pub bounds-r-2 : goal.bounds-r-2
-bounds-r-2 c =
-    let w = read_passed _ c.check_record-answer.result c.check_record-answer.ensures.answers c.in-Ok.is in
-    omega (arith, w.size)
+bounds-r-2 c = omega (arith, (check-passed (sym c.in_ok-check_record.ensures.answers)).size)
 
 pub bounds-r-3 : goal.bounds-r-3
-bounds-r-3 c =
-    let w = read_passed _ c.check_record-answer.result c.check_record-answer.ensures.answers c.in-Ok.is in
-    omega (arith, w.size)
+bounds-r-3 c = omega (arith, (check-passed (sym c.in_ok-check_record.ensures.answers)).size)
 
-pub lengths_in-lengths-requires : goal.lengths_in-lengths-requires
+pub rows_in-requires : goal.rows_in-requires
 unfolding copies_in
-lengths_in-lengths-requires c =
-    let w = read_passed _ c.check_record-answer.result c.check_record-answer.ensures.answers c.in-Ok.is in
-    record_shown w
-
-pub cells_in-cells-requires : goal.cells_in-cells-requires
-unfolding copies_in
-cells_in-cells-requires c =
-    let w = read_passed _ c.check_record-answer.result c.check_record-answer.ensures.answers c.in-Ok.is in
-    record_shown w
+rows_in-requires c = record_shown (check-passed (sym c.in_ok-check_record.ensures.answers))
 
 pub returns : goal.returns
 unfolding copies_in own_in
-returns c =
-    let w = read_passed _ c.check_record-answer.result c.check_record-answer.ensures.answers c.in-Ok.is in
-    read_done _ _ _ w c.lengths_in-lengths.ensures c.cells_in-cells.ensures
+returns c = read_done _ _ (check-passed (sym c.in_ok-check_record.ensures.answers)) c.rows_in.ensures

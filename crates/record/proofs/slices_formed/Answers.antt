@@ -1,32 +1,20 @@
--- `slices_formed` makes the test of each slice in turn: those below p have passed. Assumes nothing.
-use borrow.Author.Rules.{rules}
-use mathlib.Core.Path.{sym, ap, ◌∙◌}
-use Rattle.model.specs.Bytes.{slice_is_formed}
-use Rattle.facts.specs.Numbers.{→fail, all-start, all_turn, all_end}
-use Rattle.laws.specs.Layout.{length-slice_in}
+-- `slices_formed` makes the test of each part of n * (n + 1) bytes behind the header. Assumes nothing.
+use Rattle.std.proofs.Common.{◌∙◌, length-drop, rules, arith, ◌+◌, ◌*◌, ◌≤◌}
+use borrow.Author.Tests.{tests}
+use Rattle.std.proofs.lemmas.Iterator.Search.{all_from_yields_List}
+use Rattle.model.specs.Bytes.{slice_in, slice_is_formed}
+use Rattle.std.proofs.Math.Nat.{mul-pos}
+use Rattle.std.proofs.lemmas.List.{take_rest}
+use Rattle.record.proofs.Ranges.{YieldsList-from_parts, chunks_all}
 use Rattle.record.proofs.slices_formed.Goals as goal
 
-pub loop-p-init : goal.loop-p-init
-loop-p-init c = (search rules, all-start _)
-
-pub slice_formed-requires : goal.slice_formed-requires
-slice_formed-requires c = (
-  c.requires.0,
-  rw c.slice_at.ensures.bytes (length-slice_in c.args.n c.args.r.now c.loop-p.p c.requires.1 c.loop-p-test.true),
-  c.requires.2,
-)
-
-pub returns-then-not-slice_formed : goal.returns-then-not-slice_formed
-returns-then-not-slice_formed c =
-    sym (→fail _ _ _ c.loop-p-test.true
-    (ap (slice_is_formed _ _) (sym c.slice_at.ensures.bytes) ∙ sym c.slice_formed.ensures ∙ c.if-not-slice_formed.true))
-
-pub loop-p-preserved : goal.loop-p-preserved
-loop-p-preserved c = (
-  search rules,
-  all_turn _ _ c.loop-p.invariant.1
-      (ap (slice_is_formed _ _) (sym c.slice_at.ensures.bytes) ∙ sym c.slice_formed.ensures ∙ c.if-not-slice_formed.false),
-)
-
 pub returns : goal.returns
-returns c = sym (all_end _ _ _ c.loop-p.invariant.1 c.loop-p.invariant.0 c.loop-p-test.false)
+unfolding slice_in
+returns c =
+    let n = c.args.n in
+    let r = c.args.r.now in
+    let some : 1 ≤ n = omega arith in
+    all_from_yields_List (slice_is_formed n c.args.own) _ _ c.all.result c.all.ensures.ran
+    (YieldsList-from_parts (n * (n + 1)) (mul-pos some (omega arith)) _ n c.chunks_exact.result (c.chunks_exact.ensures.rest ∙ take_rest r 4) c.chunks_exact.ensures.size (simp length-drop (omega arith)))
+    (λ x b q k. search (rules, tests))
+    ∙ chunks_all (n * (n + 1)) n _ (slice_is_formed n c.args.own)

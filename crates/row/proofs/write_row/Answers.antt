@@ -1,11 +1,6 @@
 -- `write_row`: the length, then the symbols, then FF. Assumes nothing.
-use Rattle.std.proofs.Common.{arith}
-use Rattle.std.proofs.Math.ListN.{length-set}
 use Rattle.row.proofs.Rows.{row_written}
 use Rattle.row.proofs.write_row.Goals as goal
-
-pub copy-requires : goal.copy-requires
-copy-requires c = simp length-set (omega arith)
 
 pub returns : goal.returns
 returns c =

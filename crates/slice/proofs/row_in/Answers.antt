@@ -2,14 +2,8 @@
 use native.Mathlib.Omega.{arith}
 use mathlib.Core.Path.{ap, ◌∙◌}
 use Rattle.model.specs.Bytes.{row_in_slice, symbols_in}
-use Rattle.slice.specs.Places.{row_fits, row_long}
+use Rattle.slice.specs.Places.{row_long}
 use Rattle.slice.proofs.row_in.Goals as goal
-
-pub overflow_add-n : goal.overflow_add-n
-overflow_add-n c = omega (arith, c.requires.0.few)
-
-pub part_at-requires : goal.part_at-requires
-part_at-requires c = row_fits c.requires.0 c.args.k c.requires.1
 
 pub symbols-requires : goal.symbols-requires
 symbols-requires c =

@@ -6,10 +6,6 @@ use Prim.Native.Nat.{ℕ}
 use Rattle.model.specs.Bytes.{record_rows, row_in_slice}
 use Rattle.slice.proofs.row_of.Goals as goal
 
-pub row_in-requires : goal.row_in-requires
-row_in-requires c =
-    (rw c.slice_at.ensures.bytes (c.requires.0.slices c.args.p c.requires.1), c.requires.2)
-
 pub returns : goal.returns
 unfolding record_rows
 returns c =

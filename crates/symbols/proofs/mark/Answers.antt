@@ -1,30 +1,21 @@
--- `mark`: the whole row's marks are those of the symbols from i on, beside the ones set. Assumes nothing.
-use mathlib.Core.Path.{sym, ◌∙◌}
-use native.Mathlib.Omega.{arith}
-use lib.ListN.{get_or}
+-- `mark`: the fold over the row sets one bit for each symbol. Assumes nothing.
+use Rattle.std.proofs.Common.{◌≡◌, ◌∙◌, ℕ, ◌*◌, ◌%◌, ◌^◌, ◌<◌, rules}
+use Rattle.std.specs.List.{All, fold}
+use Rattle.std.specs.Int.Bits.{bit_or}
+use Rattle.std.proofs.iter.Serving.{serving}
+use Rattle.std.proofs.lemmas.List.Elements.{All-from_get_or}
 use Rattle.facts.specs.Members.{in_at}
-use Rattle.symbols.proofs.Digits.{make_bit, mark_fits, mark_next, mark_end}
+use Rattle.symbols.proofs.Digits.{fold-marks}
 use Rattle.symbols.proofs.mark.Goals as goal
 
-pub overflow_cast-all : goal.overflow_cast-all
-overflow_cast-all c =
-    let a = c.args in
-    let low = c.requires (get_or a.l.now c.loop-i.i 0) (in_at a.l.now c.loop-i.i c.loop-i-test.true) in
-    omega arith
-
-pub overflow_shl-all : goal.overflow_shl-all
-overflow_shl-all c =
-    let a = c.args in
-    let low = c.requires (get_or a.l.now c.loop-i.i 0) (in_at a.l.now c.loop-i.i c.loop-i-test.true) in
-    omega arith
-
-pub loop-i-preserved : goal.loop-i-preserved
-loop-i-preserved c =
-    let a = c.args in
-    let x = get_or a.l.now c.loop-i.i 0 in
-    let low = c.requires x (in_at a.l.now c.loop-i.i c.loop-i-test.true) in
-    rw (make_bit x low)
-    (omega arith, mark_fits c.loop-i.all x c.loop-i.invariant.1 low, c.loop-i.invariant.2 ∙ mark_next _ _ _ c.loop-i-test.true)
+pub fold-requires-clause-callable : goal.fold-requires-clause-callable
+fold-requires-clause-callable c =
+    let l = c.args.l.now in
+    let low : All (λ x. x < 64) l = All-from_get_or (λ x. x < 64) l 0 (λ i h. c.requires _ (in_at l i h)) in
+    grind serving
 
 pub returns : goal.returns
-returns c = sym (c.loop-i.invariant.2 ∙ mark_end _ _ _ c.loop-i-test.false)
+returns c =
+    let a = c.args in
+    let all : c.fold.result ≡ fold (λ (w x : ℕ). bit_or w (1 * 2 ^ x % 2 ^ 64)) a.w a.l.now = search rules in
+    all ∙ fold-marks a.w a.l.now c.requires

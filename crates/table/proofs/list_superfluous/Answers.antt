@@ -1,25 +1,33 @@
--- `table::list_superfluous` meets its contract: a refusal of the check is its own, and behind the check the other reasons decide.
--- Assumes nothing.
-use mathlib.Core.Path.{refl, sym, ap, ◌∙◌}
-use Rattle.model.specs.Answers.{said_done}
-use Rattle.model.specs.Calls.{table_reasons, check_says, superfluous_reasons, superfluous_says}
-use Rattle.laws.specs.Reasons.{answer_front, answer-behind}
-use Rattle.table.specs.Checked.{check-passed}
+-- `table::list_superfluous` meets its contract: a refusal of the check is its own; behind the check the mask decides, and the count is
+-- the machine's count of its ones. Assumes nothing.
+use Rattle.std.proofs.Common.{arith, sym}
+use Rattle.std.proofs.lemmas.Result.{err_from_is_err_and}
+use Rattle.model.specs.Bytes.{copies_in}
+use Rattle.model.specs.Calls.{superfluous_reasons, superfluous_says}
+use Rattle.table.specs.Checked.{check-passed, table_shown, well_long}
+use Rattle.table.specs.Chain.{refused_in_front, decided_behind}
+use Rattle.table.specs.Listing.{listing_refused, listing_mask}
 use Rattle.table.proofs.list_superfluous.Goals as goal
 
-pub list_checked-requires : goal.list_checked-requires
-list_checked-requires c = check-passed (sym c.check-d.ensures.answers ∙ ap said_done c.in-Ok.is)
+pub returns-in_err-check : goal.returns-in_err-check
+unfolding superfluous_reasons superfluous_says
+returns-in_err-check c =
+    let p = err_from_is_err_and c.from_residual.result c.from_residual.ensures.1 in
+    rw (p.1, p.2) (refused_in_front _ _ _ _ c.in_err-check.ensures)
 
-pub returns-in-Refused : goal.returns-in-Refused
-unfolding check_says superfluous_reasons superfluous_says
-returns-in-Refused c =
-    record { answers = sym (answer_front (table_reasons _) _ _ _ (sym c.check-d.ensures.answers ∙ ap said_done c.in-Refused.is)); bytes = refl }
+pub bounds-t-2 : goal.bounds-t-2
+bounds-t-2 c = omega (arith, well_long (check-passed (sym c.in_ok-check.ensures.answers)))
 
-pub returns-in-Ok : goal.returns-in-Ok
-unfolding check_says superfluous_reasons superfluous_says
-returns-in-Ok c =
-    record {
-      answers = c.list_checked.ensures
-          ∙ sym (answer-behind (table_reasons _) _ _ (sym c.check-d.ensures.answers ∙ ap said_done c.in-Ok.is));
-      bytes = refl;
-    }
+pub superfluous_mask-requires : goal.superfluous_mask-requires
+unfolding copies_in
+superfluous_mask-requires c = table_shown (check-passed (sym c.in_ok-check.ensures.answers))
+
+pub returns-in_err-mask : goal.returns-in_err-mask
+unfolding superfluous_reasons superfluous_says copies_in
+returns-in_err-mask c =
+    let p = err_from_is_err_and c.from_residual-in_err-mask.result c.from_residual-in_err-mask.ensures.1 in
+    rw (p.1, p.2) (decided_behind _ _ _ c.in_ok-check.ensures (listing_refused c.args.t.now _ c.in_err-mask.ensures))
+
+pub returns : goal.returns
+unfolding superfluous_reasons superfluous_says copies_in
+returns c = decided_behind _ _ _ c.in_ok-check.ensures (listing_mask c.args.t.now _ c.in_ok-mask.ensures)
