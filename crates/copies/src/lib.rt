@@ -11,6 +11,7 @@ ghost use Rattle.copies.specs.Copies.{TableShown, apart_from, covered_by, cover_
 use model::{Order, Refusal};
 
 // Record c of a table of n records, where it stands.
+#[tactic(auto, unfolding(model::specs::Bytes::record_in))]
 pub fn record_at(t: &[u8], n: usize, c: usize) -> &[u8]
     requires { (n ≤ 8) × (length t.now ≡ table_size n) × (c < n) }
     ensures { Handed t.entry.ref_ptr.0 (t.entry.ref_ptr.1 + c * record_size n) (record_in n t.now c) result.ref_ptr result.now }
@@ -20,6 +21,7 @@ pub fn record_at(t: &[u8], n: usize, c: usize) -> &[u8]
 }
 
 // The comparison of copies a and b.
+#[tactic(auto, unfolding(model::specs::Bytes::table_rows))]
 pub fn compare_copies(t: &[u8], n: usize, a: usize, b: usize) -> Result<Order, Refusal>
     requires { TableShown n t.now × (a < n) × (b < n) }
     ensures { result ≡ pair_compared n a b (table_rows n t.now a) (table_rows n t.now b) }

@@ -1,11 +1,13 @@
 -- Slice p of the record of copy p: what its update asks of it, what follows from that, and where its row p stands. Assumes nothing.
 use Rattle.std.specs.Prelude.{◌≡◌, List, ℕ, ◌+◌, ◌*◌, ◌≤◌, ◌<◌, length}
+use Rattle.std.proofs.Common.{arith}
 use Rattle.model.specs.Steps.{updated_row}
 use Rattle.model.specs.Bytes.{header_size, row_size, slice_size, row_in_slice, slice_in, record_in}
 use Rattle.laws.specs.Layout.{length-slice_in}
 use Rattle.laws.specs.WellFormed.{WellSlice, WellTable}
 use Rattle.laws.specs.RoundTrip.{slice_formed}
 use Rattle.laws.specs.UpdateKept.{updated_row_lem}
+use Rattle.slice.specs.Places.{row_length}
 use Rattle.slice.specs.Shown.{SliceShown}
 use Rattle.record.specs.Passed.{slice_shown}
 use Rattle.free.specs.Ranged.{Ranged}
@@ -30,6 +32,10 @@ module _ {n p : ℕ} {s : List ℕ} (own : OwnSlice n p s) where
   pub own_ranged : Ranged n s
   unfolding row_in_slice
   own_ranged = record { shown = own_shown; below = λ k h. (own.well.row k h).below }
+
+  -- Its old row has at most 8 symbols.
+  pub own_few : length (row_in_slice n s p) ≤ 8
+  own_few = omega (arith, row_length own_shown p own.copy, (own_shown.rows p own.copy).high, own.most)
 
   -- The new row is no longer than N.
   pub own_fits : length (updated_row n p (row_in_slice n s)) ≤ n

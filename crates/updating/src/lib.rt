@@ -11,45 +11,33 @@ ghost use Rattle.laws.specs.WellFormed.{WellTable};
 ghost use Rattle.updating.specs.Others.{head_other_than};
 ghost use Rattle.updating.specs.Asked.{OwnSlice, own_place};
 
-// The head of the k-th of the rows other than p.
-fn other_head(s: &[u8], n: usize, p: usize, k: usize) -> u8
-    requires { SliceShown n s.now × (k + 1 < n) }
-    ensures { result ≡ head_other_than p (row_in_slice n s.now) k }
-{
-    if k < p {
-        return slice::head_in(s, n, k);
-    }
-    slice::head_in(s, n, k + 1)
-}
-
 // The heads of the rows other than p.
+#[tactic(auto, using(row::specs::Tab::tab_next), unfolding(row::specs::Tab::tab, crate::specs::Others::other, crate::specs::Others::head_other_than))]
 fn other_heads(s: &[u8], n: usize, p: usize) -> [u8; 8]
-    requires { SliceShown n s.now }
+    requires { SliceShown n s.now × (0 < n) }
     ensures { take (n - 1) result ≡ tab (n - 1) (head_other_than p (row_in_slice n s.now)) }
 {
     let mut heads = [0; 8];
-    let mut k = 0;
-    while k + 1 < n {
-        heads[k] = other_head(s, n, p, k);
-        k += 1;
+    for (k, head) in heads[..n - 1].iter_mut().enumerate() {
+        *head = slice::head_in(s, n, if k < p { k } else { k + 1 });
     }
     heads
 }
 
 // A row of 8 cells with one symbol more, in front.
-fn in_front(x: u8, row: [u8; 9]) -> [u8; 9]
+fn in_front(x: u8, mut row: [u8; 9]) -> [u8; 9]
     requires { (row ≡ row_bytes 8 (symbols_in row)) × (get_or row 0 0 < 8) }
     ensures { result ≡ row_bytes 8 (x ∷ symbols_in row) }
 {
-    let mut longer = [0xFF; 9];
-    longer[0] = row[0] + 1;
-    longer[1] = x;
-    parts::copy(&mut longer, 2, &row[1..8]);
-    longer
+    row.copy_within(1..8, 2);
+    row[0] += 1;
+    row[1] = x;
+    row
 }
 
 // The new row p of slice p of copy p, as a row of 8 cells: the new symbol, then those symbols of the old row that are still heads of
 // other rows.
+#[tactic(auto, using(crate::specs::Asked::own_shown, crate::specs::Asked::own_ranged, crate::specs::Asked::own_few))]
 pub fn new_row(s: &[u8], n: usize, p: usize) -> [u8; 9]
     requires { OwnSlice n p s.now }
     ensures { result ≡ row_bytes 8 (updated_row n p (row_in_slice n s.now)) }
@@ -72,21 +60,13 @@ pub fn put_row(r: &mut [u8], n: usize, p: usize, row: &[u8])
     parts::copy(r, at, &row[..w]);
 }
 
-// The new row p of slice p of record p of a table.
-fn row_after(t: &[u8], n: usize, p: usize) -> [u8; 9]
-    requires { WellTable n t.now × (p < n) }
-    ensures { result ≡ row_bytes 8 (updated_row n p (table_rows n t.now p p)) }
-{
-    new_row(slice::slice_at(copies::record_at(t, n, p), n, p), n, p)
-}
-
 // The update of copy p of a table: of the table the part where record p stands is lent on to the writer of one record.
 pub fn update_in(t: &mut [u8], n: usize, p: usize)
     requires { WellTable n t.old × (p < n) }
     ensures { t.new ≡ table_bytes n (updated_table n p (table_rows n t.old)) }
 {
-    let row = row_after(t, n, p);
-    let size = 4 + n * (n * (n + 1));
-    let from = p * size;
-    put_row(&mut t[from..from + size], n, p, &row);
+    let size = record::record_len(n);
+    let r = &mut t[p * size..p * size + size];
+    let row = new_row(slice::slice_at(r, n, p), n, p);
+    put_row(r, n, p, &row);
 }
