@@ -17,8 +17,8 @@ pub returns-in_err-mask : goal.returns-in_err-mask
 unfolding superfluous_reasons superfluous_says copies_in
 returns-in_err-mask c =
     let p = err_from_is_err_and c.from_residual-in_err-mask.result c.from_residual-in_err-mask.ensures.1 in
-    rw (p.1, p.2) (decided_behind _ _ _ c.in_ok-check.ensures (listing_refused c.args.t.now _ (rw c.from.ensures at c.in_err-mask.ensures)))
+    rw (p.1, p.2) (decided_behind _ _ _ c.in_ok-check.ensures (listing_refused c.args.t.now c.from.ensures _ c.in_err-mask.ensures))
 
 pub returns : goal.returns
 unfolding superfluous_reasons superfluous_says copies_in
-returns c = decided_behind _ _ _ c.in_ok-check.ensures (listing_mask c.args.t.now _ (rw c.from.ensures at c.in_ok-mask.ensures))
+returns c = decided_behind _ _ _ c.in_ok-check.ensures (listing_mask c.args.t.now c.from.ensures _ c.in_ok-mask.ensures)
