@@ -1,13 +1,13 @@
 -- Document 01's 'The program' as one definition: the output's bytes from the input's. The state is the table's bytes, none at first: every
 -- call on a table refuses fewer than 4 bytes by 1, so that calls before an accepted `I` are refused 1. Assumes nothing.
-use Rattle.std.specs.Prelude.{cond, List, [], ◌∷◌, ◌++◌, ℕ, suc, length, replicate, ltb}
+use Rattle.std.specs.Prelude.{cond, List, [], ◌∷◌, ◌++◌, ℕ, suc, length, replicate, ltb, Option, Some, None}
 use Prim.Native.Char.{code}
 use Rattle.model.specs.Answers.{Said, refused, leave}
 use Rattle.model.specs.Bytes.{table_size, is_in_range}
 use Rattle.model.specs.Calls.{fresh_reasons, fresh_says, fresh_leaves, update_says, update_leaves, meet_says, meet_leaves, compare_says, superfluous_says}
 use Rattle.lines.specs.Lines.{lines_of, line_read}
 use Rattle.lines.specs.declared.Command.{Command}
-use Rattle.lines.specs.declared.Command.TheVariants.{Fresh, Update, Meet, Compare, Superfluous, Unreadable}
+use Rattle.lines.specs.declared.Command.TheVariants.{Fresh, Update, Meet, Compare, Superfluous}
 use Rattle.print.specs.Text.{ascii}
 use Rattle.print.specs.Printed.{line_text}
 
@@ -21,36 +21,36 @@ size_with_n old n = cond (is_in_range n) (table_size n) old
 unfoldable pub room_for : ℕ → List ℕ
 room_for n = replicate (size_with_n 0 n) 0
 
-abbrev pub letter_of_command : Command → ℕ
-letter_of_command (Fresh n) = code "I"
-letter_of_command (Update i) = code "U"
-letter_of_command (Meet i j) = code "M"
-letter_of_command (Compare i j) = code "C"
-letter_of_command Superfluous = code "D"
-letter_of_command Unreadable = code "?"
+abbrev pub letter_of_command : Option Command → ℕ
+letter_of_command (Some (Fresh n)) = code "I"
+letter_of_command (Some (Update i)) = code "U"
+letter_of_command (Some (Meet i j)) = code "M"
+letter_of_command (Some (Compare i j)) = code "C"
+letter_of_command (Some Superfluous) = code "D"
+letter_of_command None = code "?"
 
--- What the table t answers.
-unfoldable pub call_says : List ℕ → Command → Said
-call_says t (Fresh n) = fresh_says (room_for n) n
-call_says t (Update i) = update_says t i
-call_says t (Meet i j) = meet_says t i j
-call_says t (Compare i j) = compare_says t i j
-call_says t Superfluous = superfluous_says t
-call_says t Unreadable = refused 9
+-- What the table t answers; a line that cannot be read is refused 9.
+unfoldable pub call_says : List ℕ → Option Command → Said
+call_says t (Some (Fresh n)) = fresh_says (room_for n) n
+call_says t (Some (Update i)) = update_says t i
+call_says t (Some (Meet i j)) = meet_says t i j
+call_says t (Some (Compare i j)) = compare_says t i j
+call_says t (Some Superfluous) = superfluous_says t
+call_says t None = refused 9
 
 -- The table afterwards. A refused `I` keeps the old one; an accepted one starts a new history.
-unfoldable pub call_leaves : List ℕ → Command → List ℕ
-call_leaves t (Fresh n) = leave (fresh_reasons (room_for n) n) t (fresh_leaves (room_for n) n)
-call_leaves t (Update i) = update_leaves t i
-call_leaves t (Meet i j) = meet_leaves t i j
-call_leaves t (Compare i j) = t
-call_leaves t Superfluous = t
-call_leaves t Unreadable = t
+unfoldable pub call_leaves : List ℕ → Option Command → List ℕ
+call_leaves t (Some (Fresh n)) = leave (fresh_reasons (room_for n) n) t (fresh_leaves (room_for n) n)
+call_leaves t (Some (Update i)) = update_leaves t i
+call_leaves t (Some (Meet i j)) = meet_leaves t i j
+call_leaves t (Some (Compare i j)) = t
+call_leaves t (Some Superfluous) = t
+call_leaves t None = t
 
 -- ---- The whole
 
 -- The line of call c on the table t, with number k.
-unfoldable pub call_text : ℕ → List ℕ → Command → List ℕ
+unfoldable pub call_text : ℕ → List ℕ → Option Command → List ℕ
 call_text k t c = line_text k (letter_of_command c) (call_says t c)
 
 -- One line for each input line; k lines stand in front of them.
@@ -74,4 +74,4 @@ longest = 1310737
 unfoldable pub desk_text : List ℕ → List ℕ
 desk_text input =
     let answers : List ℕ = lines_text 0 [] (lines_of input) in
-    header ++ cond (ltb most (length input)) (call_text 0 [] Unreadable) answers
+    header ++ cond (ltb most (length input)) (call_text 0 [] None) answers

@@ -1,26 +1,24 @@
 -- What a number of the program is: a word is read as n exactly when n is 0 to 255 and the word is n in decimal. Assumes nothing.
-use Rattle.std.specs.Prelude.{◌≡◌, refl, ◌↔◌, Bool, true, false, cond, ◌&&◌, List, [], ◌∷◌, ◌++◌, ℕ, zero, suc, ◌+◌, ◌*◌, ◌-◌, ◌/◌, ◌%◌, ◌≤◌, ◌<◌, eqb, ltb, leb}
+use Rattle.std.specs.Prelude.{◌≡◌, refl, ◌↔◌, Bool, true, false, cond, ◌&&◌, List, [], ◌∷◌, ◌++◌, ℕ, zero, suc, ◌+◌, ◌*◌, ◌-◌, ◌/◌, ◌%◌, ◌≤◌, ◌<◌, eqb, ltb, leb, Option, Some, None}
 use Rattle.std.proofs.Common.{sym, ap, ◌∙◌, append_assoc, append-nil, arith, lt-ltb, le-ltb, ltb-false, leb-true, eqb-true}
 use Rattle.std.proofs.lemmas.Bool.{eqb-false, not-true}
 use Rattle.model.specs.Tests.{all, every}
 use Rattle.facts.specs.Numbers.{all→}
 use Rattle.facts.specs.Cases.{both→}
 use Rattle.lines.specs.Lines.{is_digit, has_good_lead, value_from, is_number, number_of}
-use Rattle.lines.specs.declared.Number.{Number}
-use Rattle.lines.specs.declared.Number.TheVariants.{Value, Bad}
 use Rattle.print.specs.Text.{digits, decimal}
 
 -- ---- A number is read from what it is in decimal
 
 -- The word is read as n.
-reads_as : Number → ℕ → Bool
-reads_as Bad n = false
-reads_as (Value m) n = eqb m n
+reads_as : Option ℕ → ℕ → Bool
+reads_as None n = false
+reads_as (Some m) n = eqb m n
 
-is_read : (x : Number) (n : ℕ) → reads_as x n ≡ true → x ≡ Value n
+is_read : (x : Option ℕ) (n : ℕ) → reads_as x n ≡ true → x ≡ Some n
 unfolding reads_as
-is_read Bad n e = absurd (let z : ◌≡◌ {A = ℕ} 0 1 = cc in omega arith)
-is_read (Value m) n e = ap Value (eqb-true m n e)
+is_read None n e = absurd (let z : ◌≡◌ {A = ℕ} 0 1 = cc in omega arith)
+is_read (Some m) n e = ap Some (eqb-true m n e)
 
 each_read : all 256 (λ n. reads_as (number_of (decimal n)) n) ≡ true
 unfolding all reads_as number_of is_number has_good_lead every value_from decimal
@@ -87,11 +85,11 @@ decimal_word (c ∷ x ∷ l) led e =
 
 -- ---- Both ways
 
-read_back : (w : List ℕ) (n : ℕ) → number_of w ≡ Value n → (n ≤ 255) × (w ≡ decimal n)
+read_back : (w : List ℕ) (n : ℕ) → number_of w ≡ Some n → (n ≤ 255) × (w ≡ decimal n)
 unfolding number_of is_number
 read_back w n e = go (is_number w) refl e
   where
-    go : (b : Bool) → is_number w ≡ b → cond b (Value (value_from 0 w)) Bad ≡ Value n → (n ≤ 255) × (w ≡ decimal n)
+    go : (b : Bool) → is_number w ≡ b → cond b (Some (value_from 0 w)) None ≡ Some n → (n ≤ 255) × (w ≡ decimal n)
     go true t r =
         let v : value_from 0 w ≡ n = cc in
         let x = both→ (has_good_lead w) (every is_digit w && leb (value_from 0 w) 255) t in
@@ -99,6 +97,6 @@ read_back w n e = go (is_number w) refl e
         (rw v at (leb-true (value_from 0 w) 255 y.1), decimal_word w x.0 y.0 ∙ ap decimal v)
     go false t r = absurd (let z : ◌≡◌ {A = ℕ} 0 1 = cc in omega arith)
 
-pub number_is : (w : List ℕ) (n : ℕ) → number_of w ≡ Value n ↔ (n ≤ 255) × (w ≡ decimal n)
+pub number_is : (w : List ℕ) (n : ℕ) → number_of w ≡ Some n ↔ (n ≤ 255) × (w ≡ decimal n)
 number_is w n =
     (read_back w n, λ p. rw p.1 (is_read (number_of (decimal n)) n (all→ 256 (λ k. reads_as (number_of (decimal k)) k) each_read n (omega (arith, p.0)))))

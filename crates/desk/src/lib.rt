@@ -1,129 +1,127 @@
-// The program as a library: the input's bytes to the output's, as far as the lent room goes. The table stands in the first `size` bytes
-// of a buffer that holds the largest.
+// The program as a library: the input's bytes to the output's, as far as the lent room goes.
 #![tactic(auto)]
 
-ghost use Rattle.std.specs.Prelude.{◌≡◌, [], ◌+◌, ◌*◌, ◌^◌, ◌<◌, ◌≤◌, length};
+ghost use Rattle.std.specs.Prelude.{◌≡◌, [], ◌+◌, ◌*◌, ◌^◌, ◌<◌, ◌≤◌, length, take, Some};
 ghost use Rattle.model.specs.Answers.{said_done};
 ghost use Rattle.lines.specs.Lines.{lines_of};
+ghost use Rattle.lines.specs.declared.Command.TheVariants.{Fresh};
 ghost use Rattle.print.specs.Printed.{said_answer};
 ghost use Rattle.print.specs.Room.{Put, Filled};
 ghost use Rattle.desk.specs.Desk.{size_with_n, letter_of_command, lines_text, desk_text, most, longest};
-ghost use Rattle.desk.specs.Kept.{size_after_call, Kept, Renewed};
+ghost use Rattle.desk.specs.Kept.{Kept};
 ghost use Rattle.desk.specs.Running.{Answered};
 
 use lines::Command;
-use model::{Done, Refusal};
+use model::Refusal;
 use print::Answer;
 
-// The size of a fresh table of n copies; the old size where N is not 2 to 8.
-fn size_with(old: usize, n: usize) -> usize
-    requires { old ≤ 4640 }
-    ensures { (result ≡ size_with_n old n) × (result ≤ 4640) }
+// The size of a fresh table of n copies; none where N is not 2 to 8.
+#[tactic(auto, unfolding(crate::specs::Desk::size_with_n, model::specs::Bytes::is_in_range), using(crate::specs::Kept::table_most))]
+fn size_with(n: usize) -> usize
+    ensures { (result ≡ size_with_n 0 n) × (result ≤ 4640) }
 {
-    if n < 2 {
-        return old;
-    }
-    if 8 < n {
-        return old;
-    }
-    n * (4 + n * (n * (n + 1)))
-}
-
-// The size of the table after call c.
-fn size_after(size: usize, c: Command) -> usize
-    requires { size ≤ 4640 }
-    ensures { (result ≡ size_after_call size c) × (result ≤ 4640) }
-{
-    match c {
-        Command::Fresh(n) => size_with(size, n),
-        Command::Update(_) => size,
-        Command::Meet(_, _) => size,
-        Command::Compare(_, _) => size,
-        Command::Superfluous => size,
-        Command::Unreadable => size,
+    match n {
+        2..=8 => n * (4 + n * (n * (n + 1))),
+        _ => 0,
     }
 }
 
-fn letter_of(c: Command) -> u8
+fn letter_of(c: Option<Command>) -> u8
     ensures { result ≡ letter_of_command c }
 {
     match c {
-        Command::Fresh(_) => b'I',
-        Command::Update(_) => b'U',
-        Command::Meet(_, _) => b'M',
-        Command::Compare(_, _) => b'C',
-        Command::Superfluous => b'D',
-        Command::Unreadable => b'?',
+        Some(Command::Fresh(_)) => b'I',
+        Some(Command::Update(_)) => b'U',
+        Some(Command::Meet(_, _)) => b'M',
+        Some(Command::Compare(_, _)) => b'C',
+        Some(Command::Superfluous) => b'D',
+        None => b'?',
     }
 }
 
-// `I n`: a fresh table in the front of the buffer, where N is 2 to 8.
-fn renew(table: &mut [u8], n: usize) -> Done
-    requires { length table.old ≡ 4640 }
-    ensures { Renewed n table.old table.new (said_done result) }
-{
-    let s = size_with(0, n);
-    fresh::make_fresh(&mut table[..s], n)
-}
-
-// Call c on the table.
-fn call(table: &mut [u8], size: usize, c: Command) -> Answer
-    requires { (size ≤ 4640) × (length table.old ≡ 4640) }
-    ensures { Kept size c table.old table.new (said_answer result) }
-{
-    match c {
-        Command::Fresh(n) => Answer::Done(renew(table, n)),
-        Command::Update(i) => Answer::Done(steps::update(&mut table[..size], i)),
-        Command::Meet(i, j) => Answer::Done(steps::meet(&mut table[..size], i, j)),
-        Command::Compare(i, j) => Answer::Compared(table::compare(&table[..size], i, j)),
-        Command::Superfluous => Answer::Listed(table::list_superfluous(&table[..size])),
-        Command::Unreadable => Answer::Done(Done::Refused(Refusal::Unreadable)),
-    }
-}
-
-// Where the next line of output starts, and the size of the table.
+// The table, in the first `size` bytes of a buffer that holds the largest.
 #[derive(Drop)]
-struct Next {
-    at: usize,
+struct Table {
+    buffer: [u8; 4640],
     size: usize,
 }
 
-// Line k: it is read, called, and its answer put out.
-fn answer_line(
-    line: &[u8],
-    k: usize,
-    table: &mut [u8],
-    size: usize,
-    out: &mut [u8],
-    at: usize,
-) -> Next
-    requires { (k < 100000) × (size ≤ 4640) × (length table.old ≡ 4640) × (at ≤ 2 ^ 30) }
-    ensures { Answered line.now k size at table.old table.new out.old out.new result.size result.at }
-{
-    let c = lines::read_line(line);
-    let s = size_after(size, c);
-    let x = call(table, size, c);
-    let next = print::put_line(out, at, k, letter_of(c), x);
-    Next { at: next, size: s }
+impl Table {
+    // None yet: every call but `I n` is refused.
+    fn new() -> Table
+        ensures { (take result.size result.buffer ≡ []) × (result.size ≤ 4640) }
+    {
+        Table {
+            buffer: [0; 4640],
+            size: 0,
+        }
+    }
+
+    // `I n`: a fresh table, where N is 2 to 8; a refusal keeps the old one.
+    fn renew(&mut self, n: usize) -> Result<(), Refusal>
+        requires { self.old.size ≤ 4640 }
+        ensures fits { self.new.size ≤ 4640 }
+        ensures kept { Kept (Some (Fresh n)) (take self.old.size self.old.buffer) (take self.new.size self.new.buffer) (said_done result) }
+    {
+        let size = size_with(n);
+        fresh::make_fresh(&mut self.buffer[..size], n)?;
+        self.size = size;
+        Ok(())
+    }
+
+    // Call c on the table.
+    #[tactic(auto, unfolding(crate::specs::Desk::call_says, crate::specs::Desk::call_leaves), using(crate::specs::Kept::lent_front))]
+    fn call(&mut self, c: Option<Command>) -> Result<Answer, Refusal>
+        requires { self.old.size ≤ 4640 }
+        ensures fits { self.new.size ≤ 4640 }
+        ensures kept { Kept c (take self.old.size self.old.buffer) (take self.new.size self.new.buffer) (said_answer result) }
+    {
+        let size = self.size;
+        match c {
+            Some(Command::Fresh(n)) => self.renew(n).map(|()| Answer::Done),
+            Some(Command::Update(i)) => {
+                steps::update(&mut self.buffer[..size], i).map(|()| Answer::Done)
+            }
+            Some(Command::Meet(i, j)) => {
+                steps::meet(&mut self.buffer[..size], i, j).map(|()| Answer::Done)
+            }
+            Some(Command::Compare(i, j)) => {
+                table::compare(&self.buffer[..size], i, j).map(Answer::Order)
+            }
+            Some(Command::Superfluous) => {
+                table::list_superfluous(&self.buffer[..size]).map(Answer::Copies)
+            }
+            None => Err(Refusal::Unreadable),
+        }
+    }
+
+    // Line k: it is read, called, and its answer put out from `at` on; the place behind it.
+    fn answer_line(&mut self, line: &[u8], k: usize, out: &mut [u8], at: usize) -> usize
+        requires { (k < 100000) × (at ≤ 2 ^ 30) × (self.old.size ≤ 4640) }
+        ensures fits { self.new.size ≤ 4640 }
+        ensures answered { Answered line.now k at (take self.old.size self.old.buffer) (take self.new.size self.new.buffer) out.old out.new result }
+    {
+        let c = lines::read_line(line);
+        let answer = self.call(c);
+        print::put_line(out, at, k, letter_of(c), answer)
+    }
 }
 
-// The lines of the input one after another, from `start` on.
-fn run_lines(input: &[u8], table: &mut [u8], out: &mut [u8], start: usize) -> usize
-    requires { (length input.now ≤ most) × (length table.old ≡ 4640) × (start ≤ 17) }
+// The lines of the input one after another, put out from `start` on.
+fn run_lines(input: &[u8], out: &mut [u8], start: usize) -> usize
+    requires { (length input.now ≤ most) × (start ≤ 17) }
     ensures { Put (lines_text 0 [] (lines_of input.now)) start out.old out.new result × (result ≤ start + 20 * most) }
 {
-    let mut from = 0;
+    let mut table = Table::new();
+    let mut rest = input;
     let mut k = 0;
-    let mut size = 0;
     let mut at = start;
-    while from < input.len() {
-        let rest = &input[from..];
+    // Where a line ends is the promise of `place_of`, so this is no `split_inclusive`.
+    while !rest.is_empty() {
         let end = lines::place_of(rest, b'\n');
         k += 1;
-        let next = answer_line(&rest[..end], k, table, size, out, at);
-        at = next.at;
-        size = next.size;
-        from += end + 1;
+        at = table.answer_line(&rest[..end], k, out, at);
+        rest = rest.get(end + 1..).unwrap_or(&[]);
     }
     at
 }
@@ -134,14 +132,7 @@ pub fn run(input: &[u8], out: &mut [u8]) -> usize
 {
     let at = print::put(out, 0, b"line call answer\n");
     if 65536 < input.len() {
-        return print::put_line(
-            out,
-            at,
-            0,
-            b'?',
-            Answer::Done(Done::Refused(Refusal::Unreadable)),
-        );
+        return print::put_line(out, at, 0, b'?', Err(Refusal::Unreadable));
     }
-    let mut table = [0u8; 4640];
-    run_lines(input, &mut table, out, at)
+    run_lines(input, out, at)
 }

@@ -2,66 +2,40 @@
 // read fails nothing is written: every output of the program starts with its header.
 #![tactic(auto)]
 
-ghost use Rattle.std.specs.Prelude.{◌-◌, ◌≤◌, ◌≡◌, length};
-ghost use Rattle.stampdesk.specs.Got.{Within};
+ghost use Rattle.std.specs.Prelude.{◌≡◌, ◌≤◌, length, IfOk};
 
+use std::io;
 use std::io::{Read, Stdin, Write};
 
-// What was read: so many bytes up to the end of the input or of the room, or a failure.
-#[derive(Drop)]
-enum Got {
-    Bytes(usize),
-    Failed,
-}
-
-// One read, into the room from `from` on; none is the end of the input.
-fn read_at(input: &mut Stdin, buf: &mut [u8], from: usize) -> Got
-    requires { from ≤ length buf.old }
-    ensures { Within (length buf.old - from) result }
-{
-    let Ok(got) = input.read(&mut buf[from..]) else {
-        return Got::Failed;
-    };
-    Got::Bytes(got)
-}
-
-fn read_all(input: &mut Stdin, buf: &mut [u8]) -> Got
-    ensures { Within (length buf.old) result }
+// What is read up to the end of the input or of the room: how many bytes.
+fn read_all(input: &mut Stdin, buf: &mut [u8]) -> io::Result<usize>
+    ensures { IfOk result (λ n. n ≤ length buf.old) }
 {
     let mut done = 0;
     while done < buf.len() {
-        let got = read_at(input, buf, done);
-        let Got::Bytes(more) = got else {
-            return Got::Failed;
-        };
+        let more = input.read(&mut buf[done..])?;
         if more == 0 {
-            return Got::Bytes(done);
+            break;
         }
         done += more;
     }
-    Got::Bytes(done)
+    Ok(done)
 }
 
-fn room() -> [u8; 65537]
-    ensures { 65537 ≡ length result }
+// Room that the proofs know by its length alone: a literal of this size in `main` would be counted, past what the check can do.
+fn zeros<const N: usize>() -> [u8; N]
+    ensures { N ≡ length result }
 {
-    [0; 65537]
-}
-
-// As much as the longest output takes.
-fn space() -> [u8; 1310737]
-    ensures { 1310737 ≡ length result }
-{
-    [0; 1310737]
+    [0; N]
 }
 
 fn main(rt: HostRuntime) {
-    let mut input = room();
-    let got = read_all(&mut rt.stdin(), &mut input);
-    let Got::Bytes(n) = got else {
+    let mut input = zeros::<65537>();
+    let Ok(n) = read_all(&mut rt.stdin(), &mut input) else {
         return;
     };
-    let mut out = space();
+    // As much as the longest output takes.
+    let mut out = zeros::<1310737>();
     let m = desk::run(&input[..n], &mut out);
     let _ = rt.stdout().write_all(&out[..m]);
 }

@@ -1,37 +1,28 @@
 -- `run_lines`: what is left to put out gives the whole, line by line. Assumes nothing.
-use native.Mathlib.Omega.{arith}
-use Prim.Native.Nat.{◌-◌}
-use lib.ListN.{length, drop, length-take}
-use Rattle.lines.specs.Pieces.{lent_from}
-use Rattle.desk.specs.Running.{running_start, running_next, running_end}
+use Rattle.std.proofs.Common.{◌≡◌, ℕ, ◌+◌, drop, ◌<◌, length, List, [], Option, Some, None, Bor, unwrap_or, refl, sym, drop_of_length-le, ⊎_elim, tests, rules, arith, ◌∙◌}
+use Rattle.std.proofs.lemmas.List.{take_rest}
+use Rattle.std.specs.Slice.{IsGetRangeResult}
+use Rattle.desk.specs.Running.{running_next, running_end}
 use Rattle.desk.proofs.run_lines.Goals as goal
 
-pub loop-from-init : goal.loop-from-init
-loop-from-init c = running_start _ _ _ _ c.requires.1
+-- What stands behind the line's end, or nothing where that is past the input's.
+from_get : (s : List ℕ) (i : ℕ) (r : Option (Bor (List ℕ))) (d : Bor (List ℕ)) {x : Bor (List ℕ)} → x ≡ unwrap_or r d → d.now ≡ [] → IsGetRangeResult s i (length s) r
+    → x.now ≡ drop i s
+from_get s i None d e none h =
+    rw (e, none) (sym (drop_of_length-le s (⊎_elim (λ (l : length s < i). omega arith) (λ (l : length s < length s). omega arith) h.0)))
+from_get s i (Some y) d e none h = rw e (h.0.2 ∙ take_rest s i)
 
-pub answer_line-next-requires : goal.answer_line-next-requires
-answer_line-next-requires c =
-    let i = c.loop-from.invariant in
-    (omega (arith, i.lines, c.requires.0, c.loop-from-test.true), i.fits, i.long, omega (arith, i.short, i.many, c.requires.0, c.requires.2))
-
-pub overflow_add-from : goal.overflow_add-from
-overflow_add-from c =
-    let input = c.args.input.now in
-    omega (arith, c.place_of-end.ensures.within, length-take (length input - c.loop-from.from) (drop c.loop-from.from input), c.requires.0, c.loop-from.invariant.passed)
-
-pub overflow_add-from-in-loop-from : goal.overflow_add-from-in-loop-from
-overflow_add-from-in-loop-from c =
-    let input = c.args.input.now in
-    omega (arith, c.place_of-end.ensures.within, length-take (length input - c.loop-from.from) (drop c.loop-from.from input), c.requires.0, c.loop-from.invariant.passed)
-
-pub loop-from-preserved : goal.loop-from-preserved
-loop-from-preserved c =
-    let input = c.args.input.now in
-    running_next c.loop-from.invariant _ c.place_of-end.result c.answer_line-next.new.table c.answer_line-next.new.out c.answer_line-next.result.size
-    c.answer_line-next.result.at (lent_from c.loop-from.from input) c.loop-from-test.true c.place_of-end.ensures c.answer_line-next.auto.table
-    c.answer_line-next.auto.out c.answer_line-next.ensures
+pub loop-rest-preserved : goal.loop-rest-preserved
+loop-rest-preserved c =
+    let at : ℕ = c.place_of-end.result + 1 in
+    let left : c.unwrap_or-rest.result.now ≡ drop at c.loop-rest.rest.now = from_get _ at c.get.result _ c.unwrap_or-rest.ensures refl c.get.ensures.lookup in
+    let more : 0 < length c.loop-rest.rest.now = search (rules, tests) in
+    record {
+      fits = c.answer_line-at.ensures.fits;
+      runs = rw left (running_next c.loop-rest.invariant.runs more c.place_of-end.ensures c.answer_line-at.ensures.answered);
+    }
 
 pub returns : goal.returns
 returns c =
-    let i = c.loop-from.invariant in
-    (running_end i c.loop-from-test.false, omega (arith, i.short, i.many, c.requires.0))
+    let i = c.loop-rest.invariant.runs in
+    (running_end i (search rules), omega (arith, i.short, i.lines, c.requires.0))
