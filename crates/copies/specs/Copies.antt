@@ -1,6 +1,5 @@
 -- The copies of a checked table: what the check has shown, how two copies compare, and which are superfluous. Assumes nothing.
-use Rattle.std.specs.Prelude.{◌≡◌, refl, Bool, true, false, not, ◌&&◌, List, ℕ, ◌≤◌, ◌<◌, length, eqb, Result, Ok, Err}
-use Rattle.std.proofs.Common.{arith}
+use Rattle.std.specs.Prelude.{◌≡◌, Bool, cond, not, ◌&&◌, List, ℕ, ◌≤◌, ◌<◌, length, eqb, Result, Ok, Err}
 use Rattle.model.specs.Tests.{any}
 use Rattle.model.specs.Steps.{Table, unrelated, comparison, is_covered}
 use Rattle.model.specs.Bytes.{table_size, record_in}
@@ -31,14 +30,4 @@ covered_by n t i m = any m (λ j. not (eqb j i) && is_covered (order n t i j))
 
 -- From: some other copy is unrelated; some other copy is equal or newer.
 abbrev pub cover_of : Bool → Bool → Result Bool Refusal
-cover_of true covered = Err UnrelatedSlice
-cover_of false covered = Ok covered
-
--- What an answer, and what a refusal, tells of the two.
-pub cover_ok : (u v : Bool) (c : Bool) → Ok c ≡ cover_of u v → (u ≡ false) × (c ≡ v)
-cover_ok true v c e = absurd (let z : ◌≡◌ {A = ℕ} 0 1 = cc in omega arith)
-cover_ok false v c e = (refl, cc)
-
-pub cover_err : (u v : Bool) (r : Refusal) → Err r ≡ cover_of u v → (u ≡ true) × (r ≡ UnrelatedSlice)
-cover_err true v r e = (refl, cc)
-cover_err false v r e = absurd (let z : ◌≡◌ {A = ℕ} 0 1 = cc in omega arith)
+cover_of apart covered = cond apart (Err UnrelatedSlice) (Ok covered)

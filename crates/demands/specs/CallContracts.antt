@@ -11,7 +11,7 @@ use Rattle.model.specs.Steps.{Slice, b_is_winner, winning_row}
 use Rattle.model.specs.Bytes.{record_rows}
 use Rattle.slice.specs.Shown.{row_place}
 use Rattle.model.specs.Calls.{lend_gives, lend_place, read_gives}
-use Rattle.model.specs.Promises.{read_once}
+use Rattle.model.specs.Promises.{said_read, rows_read, read_once}
 use Rattle.demands.specs.Asked.{Asked}
 use Rattle.demands.specs.Serves.{Service, service, Serves, Determined, determined}
 use Rattle.fresh.proofs.make_fresh.Reads as of·fresh
@@ -144,12 +144,12 @@ write_rows_determined κs = determined (write_rows κs) (write_rows_serves κs) 
 
 -- reading::read_rows: its answer, and the rows or the blank beside a refusal
 abbrev pub read_rows : Lfts 1 → Service
-read_rows κs = service (of·read-rows.Asked κs) (of·read-rows.Learnt κs) (λ a. Asked.read_rows a.0.now) (λ r. said_done r.answer) (λ s. [])
+read_rows κs = service (of·read-rows.Asked κs) (of·read-rows.Learnt κs) (λ a. Asked.read_rows a.0.now) said_read (λ s. [])
 
 pub read_rows_serves : (κs : Lfts 1) → Serves (read_rows κs)
 read_rows_serves κs = record { takes = λ a. tt; owes = λ a r s p. record { answers = p.answers; bytes = refl } }
 
-pub read_rows_gives : (κs : Lfts 1) (a : (read_rows κs).Arguments) (r : (read_rows κs).Result) (s : (read_rows κs).Exit) → (read_rows κs).Learnt a r s → r.rows ≡ read_gives a.0.now
+pub read_rows_gives : (κs : Lfts 1) (a : (read_rows κs).Arguments) (r : (read_rows κs).Result) (s : (read_rows κs).Exit) → (read_rows κs).Learnt a r s → rows_read r ≡ read_gives a.0.now
 read_rows_gives κs a r s p = p.rows
 
 pub read_rows_determined : (κs : Lfts 1) → Determined (read_rows κs)

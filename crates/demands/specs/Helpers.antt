@@ -1,13 +1,15 @@
 -- The public functions that serve the calls from below, and their own promises, as the sources have them (`Learnt`, as in
 -- CallContracts): no two outcomes satisfy a promise, where the function may be called. What is fixed of a handed part is the buffer, the
 -- place and the bytes. Assumes nothing.
-use Rattle.std.specs.Prelude.{◌≡◌, List, [], ◌∷◌, ℕ, take}
-use Rattle.std.proofs.Common.{sym, ap₂, ◌∙◌}
+use Rattle.std.specs.Prelude.{◌≡◌, List, [], ◌∷◌, ℕ, take, Result, Ok, Err, IfOk}
+use Rattle.std.proofs.Common.{sym, ap, ap₂, ◌∙◌}
 use contract.Lifetimes.{Lfts}
 use borrow.Fn.Kinds.{Dens, ended_of, res_t}
 use denote.Triple.Clauses.{AtExit}
 use Rattle.parts.specs.Handed.{Handed, handed_once}
-use Rattle.model.specs.Bytes.{slice_size}
+use Rattle.model.specs.Answers.{Said, done, said, heard, err_heard}
+use Rattle.model.specs.Bytes.{slice_size, copies_in}
+use Rattle.model.specs.declared.Refusal.{Refusal}
 use Rattle.parts.proofs.part_at.Reads as of·part-at
 use Rattle.parts.proofs.copy.Reads as of·copy
 use Rattle.row.proofs.among.Reads as of·among
@@ -35,6 +37,8 @@ use Rattle.record.proofs.has_mark.Reads as of·has-mark
 use Rattle.record.proofs.put_header.Reads as of·put-header
 use Rattle.record.proofs.in_range.Reads as of·in-range
 use Rattle.record.proofs.record_formed.Reads as of·record-formed
+use Rattle.record.proofs.record_len.Reads as of·record-len
+use Rattle.record.proofs.copies_told.Reads as of·copies-told
 use Rattle.free.proofs.free_symbol.Reads as of·free-symbol
 use Rattle.meeting_slice.proofs.met.Reads as of·met
 use Rattle.meeting_table.proofs.meet_in.Reads as of·meet-in
@@ -154,6 +158,22 @@ in_range_fixed κs a r r' s s' p q = p ∙ sym q
 pub record_formed_fixed : (κs : Lfts 1) → Fixed (of·record-formed.Learnt κs) (λ r s. r)
 record_formed_fixed κs a r r' s s' p q = p ∙ sym q
 
+pub record_len_fixed : (κs : Lfts 0) → Fixed (of·record-len.Learnt κs) (λ r s. r)
+record_len_fixed κs a r r' s s' p q = p ∙ sym q
+
+-- What is told of a header: N, or the refusal.
+told_once : (b : List ℕ) {answer : Said} (r r' : Result ℕ Refusal)
+    → said (λ _. done) r ≡ answer → said (λ _. done) r' ≡ answer → IfOk r (λ n. n ≡ copies_in b) → IfOk r' (λ n. n ≡ copies_in b) → r ≡ r'
+unfolding heard
+told_once b r r' x x' y y' = sym (back r y) ∙ ap (heard (λ _. copies_in b)) (x ∙ sym x') ∙ back r' y'
+  where
+    back : (r : Result ℕ Refusal) → IfOk r (λ n. n ≡ copies_in b) → heard (λ _. copies_in b) (said (λ _. done) r) ≡ r
+    back (Ok n) e = ap Ok (sym e)
+    back (Err q) e = err_heard (λ _. copies_in b) q
+
+pub copies_told_fixed : (κs : Lfts 1) → Fixed (of·copies-told.Learnt κs) (λ r s. r)
+copies_told_fixed κs a r r' s s' p q = told_once a.0.now r r' p.answers q.answers p.copies q.copies
+
 -- ---- free
 
 pub free_symbol_fixed : (κs : Lfts 1) → Fixed (of·free-symbol.Learnt κs) (λ r s. r)
@@ -162,9 +182,9 @@ free_symbol_fixed κs a r r' s s' p q = p ∙ sym q
 -- ---- meeting_slice
 
 -- Of the two arrays the front that holds the slice; what stands behind it is nobody's.
-pub met_fixed : (κs : Lfts 1) (a : Dens κs met·kinds.ps) (r r' : (res_t met·kinds.r κs).Denot) (s s' : AtExit (ended_of 1 met·kinds.ps met·kinds.r) κs)
+pub met_fixed : (κs : Lfts 2) (a : Dens κs met·kinds.ps) (r r' : (res_t met·kinds.r κs).Denot) (s s' : AtExit (ended_of 2 met·kinds.ps met·kinds.r) κs)
     → of·met.Learnt κs a r s → of·met.Learnt κs a r' s'
-    → (take (slice_size a.1.1.0) r.a ≡ take (slice_size a.1.1.0) r'.a) × (take (slice_size a.1.1.0) r.b ≡ take (slice_size a.1.1.0) r'.b)
+    → (take (slice_size a.1.1.0) r.0 ≡ take (slice_size a.1.1.0) r'.0) × (take (slice_size a.1.1.0) r.1 ≡ take (slice_size a.1.1.0) r'.1)
 met_fixed κs a r r' s s' p q = (p.first ∙ sym q.first, p.second ∙ sym q.second)
 
 -- ---- meeting_table

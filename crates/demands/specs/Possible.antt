@@ -1,24 +1,24 @@
 -- The promises can be kept together: for every call there are arguments, a result and parameters at exit that the function's own promise
 -- allows, with the outcome definition's outcome. So what is said of a library in Library is not said of nothing
 -- (`library_possible`, in proofs/Possible). Assumes nothing.
-use Rattle.std.specs.Prelude.{◌≡◌, refl, ◌⊎◌, Bool, true, List, [], ◌∷◌, ℕ, length, get_or, eqb}
+use Rattle.std.specs.Prelude.{◌≡◌, refl, ◌⊎◌, Bool, true, List, [], ◌∷◌, ℕ, length, get_or, eqb, Result, Ok, Err}
 use Rattle.std.proofs.Common.{sym, ap, ◌∙◌, inl, inr, eqb-true}
 use contract.Lifetimes.{Lfts}
 use Rattle.std.specs.Borrow.{Bor, MutBor}
 use Rattle.model.specs.Tests.{every}
 use Rattle.model.specs.Steps.{comparison}
-use Rattle.model.specs.Answers.{Said, refused, done, ordered, listed, answer, number_of_refusal, number_of_order, said_done, said_compared, said_listed}
+use Rattle.model.specs.Answers.{Said, refused, done, ordered, listed, answer, number_of_refusal, number_of_order, said, said_done, said_compared, said_listed}
 use Rattle.model.specs.Bytes.{record_size, copies_in, own_in, record_rows, is_in_range, record_is_formed}
-use Rattle.model.specs.Calls.{fresh_leaves, update_leaves, meet_leaves, copy_order, meet_records_leaves_first, meet_records_leaves_second, read_gives, record_passed, write_reasons, write_says, write_leaves}
+use Rattle.model.specs.Calls.{fresh_leaves, update_leaves, meet_leaves, copy_order, meet_records_leaves_first, meet_records_leaves_second, record_reasons, blank_rows, read_says, read_gives, record_passed, write_reasons, write_says, write_leaves}
+use Rattle.model.specs.Promises.{Read}
 use Rattle.model.specs.declared.Order.{Order}
 use Rattle.model.specs.declared.Refusal.{Refusal}
 use Rattle.model.specs.declared.Refusal.TheVariants.{Unmarked, WrongN, WrongLength, NotWellFormed, NoSuchCopy, SameCopy, UnrelatedSlice, DifferentN, Unreadable}
-use Rattle.model.specs.declared.Done.{Done}
-use Rattle.model.specs.declared.Compared.{Compared}
-use Rattle.model.specs.declared.Listed.{Listed}
+use Rattle.model.specs.declared.Copies.{Copies}
 use Rattle.model.specs.declared.Rows.{Rows}
 use Rattle.facts.specs.Cases.{by_test}
 use Rattle.facts.specs.Members.{In, every→}
+use Rattle.laws.specs.Reasons.{refused_not, leave_refused}
 use Rattle.demands.specs.Asked.{Asked, Roomy, fresh, check, update, meet, compare, lend, superfluous, check_record, compare_records, meet_records, read_rows, write_rows, says_of, own_of, left_by, numbers_of}
 use Rattle.demands.specs.Obeyed.{call_ruled, call_numbers}
 use Rattle.demands.specs.Versions.{name_of}
@@ -74,17 +74,27 @@ sayable (meet_records a b) = table_sayable (meet_records a b) tt refl
 sayable (read_rows r) = table_sayable (read_rows r) tt refl
 sayable (write_rows b x) = write_sayable b x
 
-as_done : {says : Said} → Sayable says done → (d : Done) × (said_done d ≡ says)
-as_done (inl e) = (Done.Ok, sym e)
-as_done (inr w) = (Done.Refused w.0, w.1)
+-- What a call gives, where it can say that, or the refusal.
+as_given : {A : Type 0} {says : Said} (gives : A → Said) (x : A) → Sayable says (gives x) → (d : Result A Refusal) × (said gives d ≡ says)
+as_given gives x (inl e) = (Ok x, sym e)
+as_given gives x (inr w) = (Err w.0, w.1)
 
-as_compared : {says : Said} (o : Order) → Sayable says (ordered (number_of_order o)) → (d : Compared) × (said_compared d ≡ says)
-as_compared o (inl e) = (Compared.As o, sym e)
-as_compared o (inr w) = (Compared.Refused w.0, w.1)
+as_done : {says : Said} → Sayable says done → (d : Result (Unit {0}) Refusal) × (said_done d ≡ says)
+as_done = as_given (λ _. done) tt
 
-as_listed : {says : Said} {m c : ℕ} → Sayable says (listed m c) → (d : Listed) × (said_listed d ≡ says)
-as_listed {m = m} {c = c} (inl e) = (Listed.Copies m c, sym e)
-as_listed (inr w) = (Listed.Refused w.0, w.1)
+as_compared : {says : Said} (o : Order) → Sayable says (ordered (number_of_order o)) → (d : Result Order Refusal) × (said_compared d ≡ says)
+as_compared = as_given (λ o. ordered (number_of_order o))
+
+as_listed : {says : Said} {m c : ℕ} → Sayable says (listed m c) → (d : Result Copies Refusal) × (said_listed d ≡ says)
+as_listed {m = m} {c = c} = as_given (λ c. listed c.mask c.count) (record { mask = m; count = c })
+
+as_read : (r : List ℕ) → Sayable (read_says r) done → (d : Result Rows Refusal) × Read (read_says r) (read_gives r) d
+as_read r (inl e) = (Ok (read_gives r), record { answers = sym e; rows = refl })
+as_read r (inr w) = (Err w.0, record { answers = w.1; rows = sym (blank r w.0 (sym w.1)) })
+  where
+    blank : (r : List ℕ) (q : Refusal) → read_says r ≡ refused (number_of_refusal q) → read_gives r ≡ blank_rows
+    unfolding read_says read_gives
+    blank r q e = leave_refused (record_reasons r) blank_rows _ (refused_not (record_reasons r) done (number_of_refusal q) refl e)
 
 -- ---- A reference to bytes, with some place and, where they are lent to be written, some name
 
@@ -129,8 +139,8 @@ allowed κs (meet_records a b) =
     let d = as_done (sayable (meet_records a b)) in
     record { arguments = (lent_at a, (lent_at b, tt)); result = d.0; exit = (lent_at (meet_records_leaves_first a b), (lent_at (meet_records_leaves_second a b), tt)); learnt = record { answers = d.1; bytes = refl }; asks = refl; says = d.1; leaves = refl }
 allowed κs (read_rows r) =
-    let d = as_done (sayable (read_rows r)) in
-    record { arguments = (at r, tt); result = record { answer = d.0; rows = read_gives r }; exit = (at r, tt); learnt = record { answers = d.1; rows = refl }; asks = refl; says = d.1; leaves = refl }
+    let d = as_read r (sayable (read_rows r)) in
+    record { arguments = (at r, tt); result = d.0; exit = (at r, tt); learnt = d.1; asks = refl; says = d.1.answers; leaves = refl }
 allowed κs (write_rows b x) =
     let d = as_done (sayable (write_rows b x)) in
     record { arguments = (lent_at b, (x, tt)); result = d.0; exit = (lent_at (write_leaves b x), (x, tt)); learnt = record { answers = d.1; bytes = refl }; asks = refl; says = d.1; leaves = refl }

@@ -12,25 +12,22 @@ ghost use Rattle.model.specs.Promises.{Owed};
 
 use model::Refusal;
 
-// `src` n times, one behind another, into `dst` from `at` on.
+// `src` n times, one behind another, into `dst` from `at` on. Not by chunks_exact_mut: of what it lends a proof keeps the length alone.
 fn repeat(dst: &mut [u8], at: usize, src: &[u8], n: usize)
     requires { (n ≤ 8) × (at + n * length src.now ≤ length dst.old) }
     ensures { dst.new ≡ written at (join n (λ k. src.now)) dst.old }
 {
-    let w = src.len();
-    let mut k = 0;
-    while k < n {
-        parts::copy(dst, at + k * w, src);
-        k += 1;
+    for k in 0..n {
+        parts::copy(dst, at + k * src.len(), src);
     }
 }
 
 // A fresh slice, in the front of 72 bytes.
 fn fresh_slice(n: usize) -> [u8; 72]
     requires { (1 ≤ n) × (n ≤ 8) }
-    ensures { (length result ≡ 72) × (take (slice_size n) result ≡ slice_bytes n (λ k. 0 ∷ [])) }
+    ensures { take (slice_size n) result ≡ slice_bytes n (λ k. 0 ∷ []) }
 {
-    let row: [u8; 9] = [1, 0, 0xFF, 0xFF, 0xFF, 0xFF, 0xFF, 0xFF, 0xFF];
+    let row = [1, 0, 0xFF, 0xFF, 0xFF, 0xFF, 0xFF, 0xFF, 0xFF];
     let mut s = [0; 72];
     repeat(&mut s, 0, &row[..n + 1], n);
     s
@@ -51,12 +48,9 @@ fn fresh_records(t: &mut [u8], n: usize)
     requires { (1 ≤ n) × (n ≤ 8) × (length t.old ≡ table_size n) }
     ensures { t.new ≡ table_bytes n fresh_rows }
 {
-    let w = 4 + n * (n * (n + 1));
-    let mut c = 0;
-    while c < n {
-        let at = c * w;
-        fresh_record(&mut t[at..at + w], n, c);
-        c += 1;
+    let w = record::record_len(n);
+    for own in 0..n {
+        fresh_record(&mut t[own * w..own * w + w], n, own);
     }
 }
 

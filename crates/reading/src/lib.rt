@@ -49,5 +49,5 @@ pub fn read_rows(r: &[u8]) -> Result<Rows, Refusal>
     ensures { Read (read_says r.now) (read_gives r.now) result }
 {
     record::check_record(r)?;
-    Ok(rows_in(r, r[2] as usize, r[3] as usize))
+    Ok(rows_in(r, usize::from(r[2]), usize::from(r[3])))
 }

@@ -1,3 +1,3 @@
-pub mod Chain
+pub mod Decided
 pub mod Heads
 pub mod Ranges

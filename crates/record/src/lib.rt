@@ -85,8 +85,8 @@ pub fn record_formed(r: &[u8], n: usize) -> bool
     requires { (2 ≤ n) × (n ≤ 8) × (length r.now ≡ record_size n) }
     ensures { result ≡ record_is_formed n r.now }
 {
-    let own = r[3] as usize;
-    has_mark(r) && r[2] as usize == n && own < n && slices_formed(r, n, own)
+    let own = usize::from(r[3]);
+    has_mark(r) && usize::from(r[2]) == n && own < n && slices_formed(r, n, own)
 }
 
 // How many bytes a record of n copies has.
@@ -107,7 +107,7 @@ pub fn copies_told(b: &[u8]) -> Result<usize, Refusal>
     if b.len() < 4 || !has_mark(b) {
         return Err(Refusal::Unmarked);
     }
-    let n = b[2] as usize;
+    let n = usize::from(b[2]);
     if !in_range(n) {
         return Err(Refusal::WrongN);
     }

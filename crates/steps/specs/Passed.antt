@@ -1,17 +1,17 @@
 -- A meeting's refusals beside a comparison's, and what a call that is not refused was shown. Assumes nothing.
 use Rattle.std.specs.Prelude.{◌≡◌, refl, Bool, true, false, ◌||◌, List, [], ◌∷◌, ◌++◌, ℕ, ◌<◌, eqb}
-use Rattle.std.proofs.Common.{arith}
+use Rattle.std.proofs.Common.{◌∙◌, arith}
 use Rattle.std.proofs.Math.Dec.{leb}
-use borrow.Author.Tests.{eq-eqb, eqb-true}
+use borrow.Author.Tests.{eq-eqb, eqb-true, ne_eqb}
 use Rattle.model.specs.Tests.{head, is_in}
 use Rattle.model.specs.Answers.{done, refused, ordered, Reason, refuse, answer, number_of_order}
 use Rattle.model.specs.Steps.{unrelated, answer_at_slice, answer_of, slice_answer_of, is_unrelated}
 use Rattle.model.specs.Bytes.{copies_in, table_rows}
 use Rattle.model.specs.Calls.{table_reasons, lend_says, lend_reasons, update_reasons, update_says, meet_reasons, meet_says, compare_reasons, compare_says, unrelated_copies, copy_order}
 use Rattle.facts.specs.Numbers.{→none}
-use Rattle.laws.specs.Reasons.{accepted-answer}
+use Rattle.laws.specs.Reasons.{accepted-answer, answer_now, answer_later, answer-own, ordered_done}
 use Rattle.laws.specs.WellFormed.{WellTable}
-use Rattle.laws.specs.Accepted.{Related, update-accepted→, meet-accepted→}
+use Rattle.laws.specs.Accepted.{Related, update-accepted→, compare-accepted→}
 
 -- An update is refused as a lending is.
 pub update_lends : (t : List ℕ) (p : ℕ) → lend_says t p ≡ update_says t p
@@ -22,9 +22,10 @@ pub update-passed : (t : List ℕ) (p : ℕ) → update_says t p ≡ done → We
 unfolding update_says
 update-passed t p e = update-accepted→ t p (accepted-answer (update_reasons t p) done refl e)
 
-pub meet-passed : (t : List ℕ) (a b : ℕ) → meet_says t a b ≡ done → Related (copies_in t) t a b × (a ≡ b → ⊥)
-unfolding meet_says
-meet-passed t a b e = meet-accepted→ t a b (accepted-answer (meet_reasons t a b) done refl e)
+pub compare-passed : (t : List ℕ) (a b : ℕ) {k : ℕ} → compare_says t a b ≡ ordered k → Related (copies_in t) t a b
+unfolding compare_says
+compare-passed t a b {k} e =
+    compare-accepted→ t a b (accepted-answer (compare_reasons t a b) done refl (ordered_done (compare_reasons t a b) _ k e))
 
 -- No slice of a copy is unrelated to itself.
 not_itself : (t : List ℕ) (a : ℕ) → unrelated_copies t a a ≡ false
@@ -66,7 +67,13 @@ module _ (t : List ℕ) (a b : ℕ) where
       refused_between (table_reasons t) (leb (copies_in t) a || leb (copies_in t) b) (eqb a b) (unrelated_copies t a b) (number_of_order (copy_order t a b)) k
       (λ s. rw (← eqb-true a b s) (not_itself t a)) e
 
-  pub meet-behind : {k : ℕ} → compare_says t a b ≡ ordered k → meet_says t a b ≡ answer (refuse (eqb a b) 6 ∷ []) done
+  meet-behind : {k : ℕ} → compare_says t a b ≡ ordered k → meet_says t a b ≡ answer (refuse (eqb a b) 6 ∷ []) done
   unfolding compare_says compare_reasons meet_says meet_reasons
   meet-behind {k} e =
       ordered_between (table_reasons t) (leb (copies_in t) a || leb (copies_in t) b) (eqb a b) (unrelated_copies t a b) (number_of_order (copy_order t a b)) k e
+
+  pub meet_same : {k : ℕ} → compare_says t a b ≡ ordered k → a ≡ b → meet_says t a b ≡ refused 6
+  meet_same e same = meet-behind e ∙ answer_now 6 [] done (eq-eqb a b same)
+
+  pub meet_done : {k : ℕ} → compare_says t a b ≡ ordered k → (a ≡ b → ⊥) → meet_says t a b ≡ done
+  meet_done e differ = meet-behind e ∙ answer_later 6 [] done (ne_eqb a b differ) ∙ answer-own done

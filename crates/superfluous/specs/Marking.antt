@@ -1,9 +1,6 @@
 -- Laws for the loop that marks the superfluous copies one by one. Assumes nothing.
-use Rattle.std.specs.Prelude.{◌≡◌, ◌⊎◌, Bool, true, cond, not, ◌&&◌, eqb, bit_or, ◌*◌, ◌%◌, Ok, Err}
-use Rattle.std.proofs.Math.Path.{refl, ap}
-use Rattle.std.proofs.Common.{◌∙◌, inl, inr, arith, eqb-true, add-one}
-use Rattle.std.proofs.Math.Bool.{false}
-use Prim.Native.Nat.{ℕ, ◌+◌, ◌^◌, ◌<◌}
+use Rattle.std.specs.Prelude.{◌≡◌, refl, ◌⊎◌, Bool, true, false, cond, not, ◌&&◌, ℕ, ◌+◌, ◌*◌, ◌%◌, ◌^◌, ◌<◌, eqb, bit_or, Ok, Err}
+use Rattle.std.proofs.Common.{ap, ◌∙◌, inl, inr, arith, eqb-true, add-one}
 use Rattle.std.proofs.lemmas.Bool.{eqb-false, not-true, not-false}
 use Rattle.std.specs.Int.Bits.{or_shifted_r}
 use lib.Pow.{shl_exact}
@@ -12,7 +9,8 @@ use Rattle.model.specs.Steps.{Table, mask_of, is_superfluous}
 use Rattle.model.specs.declared.Refusal.{Refusal}
 use Rattle.facts.specs.Cases.{by_lt, both→, unless→}
 use Rattle.facts.specs.Numbers.{any→, none→, →pair, →no_pair, below_next}
-use Rattle.copies.specs.Copies.{apart, order, apart_from, covered_by, cover_of, cover_ok, cover_err}
+use Rattle.pair.specs.Pair.{ok_told, err_told}
+use Rattle.copies.specs.Copies.{apart, order, apart_from, covered_by, cover_of}
 use Rattle.superfluous.specs.Mask.{masked}
 use Rattle.laws.specs.Superfluous.{mask_below}
 use Rattle.laws.specs.Mirror.{unrelated-mirrored}
@@ -69,7 +67,7 @@ module _ (n : ℕ) (t : Table) where
         → Marking n t (i + 1) (cond c (bit_or mask (1 * 2 ^ i % 2 ^ 8)) mask)
     unfolding mask_of is_superfluous covered_by
     marking_next less c e =
-        let told = cover_ok (apart_from n t i n) (covered_by n t i n) c e in
+        let told = ok_told (apart_from n t i n) e in
         let low : mask < 2 ^ i = rw so_far.marks (mask_below i (is_superfluous n (order n t))) in
         record {
           near = λ k l. below_next (λ j. apart_from n t j n ≡ false) so_far.near told.0 k (omega arith);
@@ -80,7 +78,7 @@ module _ (n : ℕ) (t : Table) where
     pub marking_apart : i < n → (r : Refusal) → Err r ≡ cover_of (apart_from n t i n) (covered_by n t i n) → Err r ≡ masked n t
     unfolding masked
     marking_apart less r e =
-        let told = cover_err (apart_from n t i n) (covered_by n t i n) r e in
+        let told = err_told (apart_from n t i n) (covered_by n t i n) e in
         rw (told.1, apart_pair n t i less told.0) refl
 
   -- With every copy looked at, the mask is the answer.

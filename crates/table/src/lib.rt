@@ -1,5 +1,5 @@
 // The calls on a table that only read it: check, compare, lend, superfluous copies. None asks anything of its input.
-#![tactic(auto)]
+#![tactic(auto, unfolding(model::specs::Answers::answer, model::specs::Bytes::copies_in, model::specs::Calls::form_reasons, model::specs::Calls::table_reasons, model::specs::Calls::check_says, model::specs::Calls::compare_reasons, model::specs::Calls::compare_says, model::specs::Calls::lend_reasons, model::specs::Calls::lend_says, model::specs::Calls::superfluous_reasons, model::specs::Calls::superfluous_says, record::specs::Told::header_reasons))]
 
 ghost use Rattle.std.specs.Prelude.{◌≡◌, ◌||◌, [], ◌∷◌, ◌+◌, ◌≤◌, ◌<◌, length, leb};
 ghost use Rattle.std.specs.Int.Count.{ones};
@@ -14,13 +14,13 @@ ghost use Rattle.table.specs.Checked.{copy_is_formed};
 use model::{Copies, Order, Refusal};
 
 // Record c of a table is well formed and has own number c.
-#[tactic(auto, unfolding(model::specs::Bytes::own_in), using(crate::proofs::Ranged::record_sizes))]
+#[tactic(auto, unfolding(model::specs::Bytes::own_in), using(crate::proofs::Sizes::record_sizes))]
 fn copy_formed(t: &[u8], n: usize, c: usize) -> bool
     requires { (2 ≤ n) × (n ≤ 8) × (length t.now ≡ table_size n) × (c < n) }
     ensures { result ≡ copy_is_formed n t.now c }
 {
     let r = copies::record_at(t, n, c);
-    r[3] as usize == c && record::record_formed(r, n)
+    usize::from(r[3]) == c && record::record_formed(r, n)
 }
 
 // Each record of a table is well formed, and record i has own number i.
@@ -32,7 +32,6 @@ fn records_formed(t: &[u8], n: usize) -> bool
 }
 
 // Check of a table: refusals 1 to 4.
-#[tactic(auto, unfolding(model::specs::Answers::answer, model::specs::Bytes::copies_in, model::specs::Calls::form_reasons, model::specs::Calls::table_reasons, model::specs::Calls::check_says, record::specs::Told::header_reasons))]
 pub fn check(t: &[u8]) -> Result<(), Refusal>
     ensures { Owed (check_says t.now) [] (said_done result) [] }
 {
@@ -51,7 +50,7 @@ pub fn compare(t: &[u8], a: usize, b: usize) -> Result<Order, Refusal>
     ensures { Owed (compare_says t.now a b) [] (said_compared result) [] }
 {
     check(t)?;
-    let n = t[2] as usize;
+    let n = usize::from(t[2]);
     if n <= a || n <= b {
         return Err(Refusal::NoSuchCopy);
     }
@@ -63,7 +62,7 @@ pub fn lend_number(t: &[u8], i: usize) -> Result<(), Refusal>
     ensures { Owed (lend_says t.now i) [] (said_done result) [] }
 {
     check(t)?;
-    if t[2] as usize <= i {
+    if usize::from(t[2]) <= i {
         return Err(Refusal::NoSuchCopy);
     }
     Ok(())
@@ -76,7 +75,7 @@ pub fn lend(t: &[u8], i: usize) -> &[u8]
     if lend_number(t, i).is_err() {
         return &t[..0];
     }
-    copies::record_at(t, t[2] as usize, i)
+    copies::record_at(t, usize::from(t[2]), i)
 }
 
 // The list of superfluous copies: refusals 1 to 4, then 7 of any pair.
@@ -84,7 +83,7 @@ pub fn list_superfluous(t: &[u8]) -> Result<Copies, Refusal>
     ensures { Owed (superfluous_says t.now) [] (said_listed result) [] }
 {
     check(t)?;
-    let mask = superfluous::superfluous_mask(t, t[2] as usize)?;
+    let mask = superfluous::superfluous_mask(t, usize::from(t[2]))?;
     Ok(Copies {
         mask,
         count: mask.count_ones() as u8,

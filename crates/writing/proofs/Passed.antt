@@ -16,7 +16,6 @@ use Rattle.model.specs.Calls.{most, row_passed, record_passed}
 use Rattle.model.specs.declared.Rows.{Rows}
 use Rattle.laws.specs.Given.{InRoom, passed_long, slices_long}
 use Rattle.slice.specs.Places.{sizes}
-use Rattle.writing.specs.Passing.{passing}
 
 -- One element, and a list behind it.
 written_cons : (at x : ℕ) (v l : List ℕ) → at < length l → written (at + 1) v (set l at x) ≡ written at (x ∷ v) l
@@ -58,12 +57,6 @@ module _ (x : Rows) (fits : InRoom x) (few : x.n ≤ 8) (p : ℕ) (lp : p < x.n)
   slice_next so long v after same e =
       let ends : p * slice_size x.n + slice_size x.n ≤ x.n * slice_size x.n = room (slice_size x.n) lp in
       front_next so (4 + p * slice_size x.n) v after e refl (ap length same ∙ slices_long x fits few p lp) (omega arith) same
-
--- The own number is no part of a row.
-pub own_aside : (n own : ℕ) (lengths cells : List ℕ) (p : ℕ)
-    → join n (row_passed (passing n 0 lengths cells) p) ≡ join n (row_passed (passing n own lengths cells) p)
-unfolding row_passed
-own_aside n own lengths cells p = refl
 
 -- All slices are written behind the header.
 pub record_end : (x : Rows) (p : ℕ) (old l before : List ℕ) → Front 4 (slice_size x.n) p (λ q. join x.n (row_passed x q)) old l → p ≡ x.n

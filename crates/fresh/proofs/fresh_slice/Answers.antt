@@ -1,23 +1,13 @@
 -- `fresh::fresh_slice` meets its contract: N fresh rows, one behind another. Assumes nothing.
 use native.Mathlib.Omega.{arith}
-use mathlib.Core.Path.{sym}
 use Prim.Native.Nat.{◌+◌}
 use lib.ListN.{take, replicate}
 use Rattle.slice.specs.Places.{sizes}
 use Rattle.fresh.proofs.Repeated.{fresh_row, fresh_row_front, fresh_row_wide, fresh_slice_front}
 use Rattle.fresh.proofs.fresh_slice.Goals as goal
 
-pub slice_bounds-repeat-end-2 : goal.slice_bounds-repeat-end-2
-slice_bounds-repeat-end-2 c = sym (fresh_row_wide c.args.n c.requires.0 c.requires.1)
-
-pub repeat-requires : goal.repeat-requires
-repeat-requires c =
-    (c.requires.1, rw (fresh_row_wide c.args.n c.requires.0 c.requires.1) (omega (arith, sizes c.args.n c.requires.1)))
-
 pub returns : goal.returns
 returns c =
-    let n = c.args.n in (
-      c.repeat.auto.dst,
-      fresh_slice_front n (take (n + 1) fresh_row) (replicate 72 0) c.repeat.new.dst (fresh_row_front n c.requires.0 c.requires.1)
-          (fresh_row_wide n c.requires.0 c.requires.1) (omega (arith, sizes n c.requires.1)) c.repeat.ensures,
-    )
+    let n = c.args.n in
+    fresh_slice_front n (take (n + 1) fresh_row) (replicate 72 0) c.repeat.new.dst (fresh_row_front n c.requires.0 c.requires.1)
+    (fresh_row_wide n c.requires.0 c.requires.1) (omega (arith, sizes n c.requires.1)) c.repeat.ensures

@@ -16,8 +16,8 @@ bounds-r-3 c = omega (arith, (check-passed (sym c.in_ok-check_record.ensures.ans
 
 pub rows_in-requires : goal.rows_in-requires
 unfolding copies_in
-rows_in-requires c = record_shown (check-passed (sym c.in_ok-check_record.ensures.answers))
+rows_in-requires c = rw c.from.ensures (record_shown (check-passed (sym c.in_ok-check_record.ensures.answers)))
 
 pub returns : goal.returns
 unfolding copies_in own_in
-returns c = read_done _ _ (check-passed (sym c.in_ok-check_record.ensures.answers)) c.rows_in.ensures
+returns c = read_done _ _ (check-passed (sym c.in_ok-check_record.ensures.answers)) (rw (c.from.ensures, c.from-2.ensures) at c.rows_in.ensures)

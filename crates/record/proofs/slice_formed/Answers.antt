@@ -1,7 +1,7 @@
 -- `slice_formed` makes the test of the rows, and compares the two words of the principal set. Assumes nothing.
 use Rattle.std.proofs.Common.{sym, ◌∙◌}
 use Rattle.record.specs.Passed.{rows_shown, symbol_low}
-use Rattle.record.proofs.Chain.{rows_passed, slice_misformed, slice_decided}
+use Rattle.record.proofs.Decided.{rows_passed, slice_misformed, slice_decided}
 use Rattle.record.proofs.slice_formed.Goals as goal
 
 pub row_in-requires : goal.row_in-requires

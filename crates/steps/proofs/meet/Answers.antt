@@ -1,40 +1,47 @@
--- `steps::meet` meets its contract: no byte is written before every refusal is ruled out, 7 over all slices. Assumes nothing.
-use native.Mathlib.Omega.{arith}
-use mathlib.Core.Path.{sym, ap, ◌∙◌}
-use mathlib.Core.List.{List, [], ◌∷◌}
-use Prim.Native.Nat.{ℕ}
-use Rattle.model.specs.Answers.{said_done}
+-- `meet`: no byte is written before every refusal is ruled out, 7 over all slices. Assumes nothing.
+use Rattle.std.proofs.Common.{◌≡◌, sym, arith}
+use Rattle.std.proofs.lemmas.Grind.{common_steps}
 use Rattle.model.specs.Bytes.{copies_in}
 use Rattle.laws.specs.Refusals.{meet_refused}
 use Rattle.laws.specs.Leaves.{meet_leaves_lem}
 use Rattle.table.specs.Checked.{well_long}
-use Rattle.steps.specs.Passed.{meet-passed}
+use Rattle.steps.specs.Passed.{meet_refused_as, meet_same, meet_done, compare-passed}
 use Rattle.steps.proofs.meet.Goals as goal
 
-pub returns-in_default : goal.returns-in_default
-returns-in_default c =
+pub returns-in_err-compare : goal.returns-in_err-compare
+returns-in_err-compare c =
+    let e = meet_refused_as _ _ _ (sym c.in_err-compare.ensures.answers) in
+    grind (arith, common_steps, e, meet_refused _ _ _ _ e)
+
+pub returns-then-a-b : goal.returns-then-a-b
+returns-then-a-b c =
     let a = c.args in
-    record {
-      answers = c.refusal-d.ensures;
-      bytes = ap (λ (l : List ℕ). l ∷ []) (sym (meet_refused a.t.now a.a a.b _ (sym c.refusal-d.ensures ∙ ap said_done c.in_default.is)));
-    }
+    let same : a.a ≡ a.b = omega arith in
+    let e = meet_same a.t.now _ _ (sym c.in_ok-compare.ensures.answers) same in
+    grind (arith, common_steps, e, meet_refused _ _ _ _ e)
 
 pub bounds-t-2 : goal.bounds-t-2
 bounds-t-2 c =
-    let a = c.args in
-    omega (arith, well_long (meet-passed a.t.now a.a a.b (sym c.refusal-d.ensures ∙ ap said_done c.in-Ok.is)).0.well)
+    let r = compare-passed _ _ _ (sym c.in_ok-compare.ensures.answers) in
+    omega (arith, well_long r.well)
 
 pub meet_in-requires : goal.meet_in-requires
 unfolding copies_in
 meet_in-requires c =
-    let a = c.args in
-    let m = meet-passed a.t.now a.a a.b (sym c.refusal-d.ensures ∙ ap said_done c.in-Ok.is) in
-    record { well = m.0.well; first = m.0.first; second = m.0.second; differ = m.1 }
+    let r = compare-passed _ _ _ (sym c.in_ok-compare.ensures.answers) in
+    rw c.from-n.ensures
+    record {
+      well = r.well;
+      first = omega (arith, r.first, r.second);
+      second = omega (arith, r.first, r.second);
+      differ = omega arith;
+    }
 
 pub returns : goal.returns
 unfolding copies_in
 returns c =
     let a = c.args in
-    let e = sym c.refusal-d.ensures ∙ ap said_done c.in-Ok.is in
-    let m = meet-passed a.t.now a.a a.b e in
-    record { answers = sym e; bytes = ap (λ (l : List ℕ). l ∷ []) (c.meet_in.ensures ∙ sym (meet_leaves_lem _ a.t.now a.a a.b m.0 m.1)) }
+    let differ : a.a ≡ a.b → ⊥ = omega arith in
+    let says = sym c.in_ok-compare.ensures.answers in
+    let e = meet_done a.t.now _ _ says differ in
+    grind (arith, common_steps, e, meet_leaves_lem _ _ _ _ (compare-passed _ _ _ says) differ)

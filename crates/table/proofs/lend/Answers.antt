@@ -21,12 +21,12 @@ unfolding copies_in
 record_at-requires c =
     let ok = sym c.lend_number.ensures.answers ∙ said_ok c.lend_number.result (sym c.if-is_err.ensures.value) in
     let p = lend_passed c.args.t.now c.args.i ok in
-    (p.0.most, p.0.size, omega (arith, p.1))
+    rw c.from.ensures (p.0.most, p.0.size, omega (arith, p.1))
 
 pub returns : goal.returns
 unfolding copies_in
 returns c =
     let ok = sym c.lend_number.ensures.answers ∙ said_ok c.lend_number.result (sym c.if-is_err.ensures.value) in
     let e = lent c.args.t.now c.args.i ok in
-    let r = c.record_at.ensures in
+    let r = rw c.from.ensures at c.record_at.ensures in
     record { within = r.within; at = omega (arith, r.at, e.1); bytes = r.bytes ∙ sym e.0 }
