@@ -3,7 +3,7 @@ use mathlib.Core.Path.{◌≡◌, sym, ap, ap₂, ◌∙◌}
 use mathlib.Core.List.{List, ◌∷◌}
 use Prim.Native.Nat.{ℕ, ◌-◌, ◌<◌}
 use native.Mathlib.Omega.{arith}
-use lib.ListN.{length, get_or, take}
+use lib.ListN.{length, get_or}
 use Rattle.model.specs.Tests.{is_in, keep}
 use Rattle.model.specs.Steps.{new_symbol, head_of_other, updated_row}
 use Rattle.model.specs.Bytes.{row_bytes, symbols_in, row_in_slice}
@@ -16,12 +16,12 @@ use Rattle.updating.specs.Asked.{OwnSlice, own_fits}
 unfoldable pub stay : ℕ → ℕ → List ℕ → List ℕ
 stay n p s = keep (head_of_other n p (row_in_slice n s)) (row_in_slice n s p)
 
--- They are what is cut out with the heads that stand in an array.
-pub stay_cut : {n p : ℕ} {s old kept : List ℕ} → OwnSlice n p s → (heads : List ℕ)
-    → take (n - 1) heads ≡ tab (n - 1) (head_other_than p (row_in_slice n s)) → old ≡ row_in_slice n s p
-    → kept ≡ row_bytes 8 (keep (λ x. is_in x (take (n - 1) heads)) old) → kept ≡ row_bytes 8 (stay n p s)
+-- They are what is cut out with those heads.
+pub stay_cut : {n p : ℕ} {s old heads kept : List ℕ} → OwnSlice n p s
+    → heads ≡ tab (n - 1) (head_other_than p (row_in_slice n s)) → old ≡ row_in_slice n s p
+    → kept ≡ row_bytes 8 (keep (λ x. is_in x heads) old) → kept ≡ row_bytes 8 (stay n p s)
 unfolding stay
-stay_cut {n} {p} {s} own heads eh eo e =
+stay_cut {n} {p} {s} own eh eo e =
     e
     ∙ ap (row_bytes 8)
     (ap₂ (λ (hs l : List ℕ). keep (λ x. is_in x hs) l) eh eo

@@ -1,3 +1,4 @@
 pub mod Longer
+pub mod Below
 pub mod Kept
 pub mod Place

@@ -11,15 +11,19 @@ ghost use Rattle.laws.specs.WellFormed.{WellTable};
 ghost use Rattle.updating.specs.Others.{head_other_than};
 ghost use Rattle.updating.specs.Asked.{OwnSlice, own_place};
 
+use arrayvec::ArrayVec;
+
 // The heads of the rows other than p.
-#[tactic(auto, using(row::specs::Tab::tab_next), unfolding(row::specs::Tab::tab, crate::specs::Others::other, crate::specs::Others::head_other_than))]
-fn other_heads(s: &[u8], n: usize, p: usize) -> [u8; 8]
-    requires { SliceShown n s.now × (0 < n) }
-    ensures { take (n - 1) result ≡ tab (n - 1) (head_other_than p (row_in_slice n s.now)) }
+#[tactic(auto, using(crate::proofs::Below::others_next), unfolding(row::specs::Tab::tab, crate::proofs::Below::others_below))]
+fn other_heads(s: &[u8], n: usize, p: usize) -> ArrayVec<u8, 8>
+    requires { SliceShown n s.now × (p < n) }
+    ensures { result.items ≡ tab (n - 1) (head_other_than p (row_in_slice n s.now)) }
 {
-    let mut heads = [0; 8];
-    for (k, head) in heads[..n - 1].iter_mut().enumerate() {
-        *head = slice::head_in(s, n, if k < p { k } else { k + 1 });
+    let mut heads = ArrayVec::new();
+    for k in 0..n {
+        if k != p {
+            heads.push(slice::head_in(s, n, k));
+        }
     }
     heads
 }
@@ -45,8 +49,7 @@ pub fn new_row(s: &[u8], n: usize, p: usize) -> [u8; 9]
     let old = slice::row_in(s, n, p);
     let x = free::free_symbol(s, n);
     let heads = other_heads(s, n, p);
-    let others = &heads[..n - 1];
-    let kept = row::cut_row(old, others);
+    let kept = row::cut_row(old, &heads);
     in_front(x, kept)
 }
 

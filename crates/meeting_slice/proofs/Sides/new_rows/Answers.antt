@@ -1,18 +1,8 @@
 -- `new_rows`: each new row goes behind those before it. Assumes nothing.
 use Rattle.std.proofs.Common.{◌≡◌, List, ℕ, ◌+◌, ◌*◌, ◌≤◌, length, take, arith, add-one, suc-mul}
-use Rattle.std.proofs.lemmas.Grind.{common_steps}
-use Rattle.parts.specs.Parts.{join, room}
+use Rattle.parts.specs.Parts.{join}
 use Rattle.parts.specs.Written.{written, take-written}
-use Rattle.model.specs.Bytes.{row_size}
-use Rattle.slice.specs.Places.{sizes}
-use Rattle.meeting_slice.proofs.new_rows.Goals as goal
-
-pub loop-k-init : goal.loop-k-init
-unfolding join
-loop-k-init c = grind (arith, common_steps)
-
-pub copy-requires : goal.copy-requires
-copy-requires c = omega (arith, sizes c.args.n c.requires.0.few, room (row_size c.args.n) c.loop-k-test.true)
+use Rattle.meeting_slice.proofs.Sides.new_rows.Goals as goal
 
 behind : (w k : ℕ) (f : ℕ → List ℕ) (v l : List ℕ) → take (k * w) l ≡ join k f → v ≡ f k → length v ≡ w → k * w + w ≤ length l
     → take ((k + 1) * w) (written (k * w) v l) ≡ join (k + 1) f
