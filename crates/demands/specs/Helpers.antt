@@ -172,7 +172,7 @@ told_once b r r' x x' y y' = sym (back r y) ∙ ap (heard (λ _. copies_in b)) (
     back (Err q) e = err_heard (λ _. copies_in b) q
 
 pub copies_told_fixed : (κs : Lfts 1) → Fixed (of·copies-told.Learnt κs) (λ r s. r)
-copies_told_fixed κs a r r' s s' p q = told_once a.0.now r r' p.answers q.answers p.copies q.copies
+copies_told_fixed κs a r r' s s' p q = told_once a.0.now r r' p.0 q.0 p.1.0 q.1.0
 
 -- ---- free
 

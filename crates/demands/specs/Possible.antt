@@ -89,11 +89,11 @@ as_listed : {says : Said} {m c : ℕ} → Sayable says (listed m c) → (d : Res
 as_listed {m = m} {c = c} = as_given (λ c. listed c.mask c.count) (record { mask = m; count = c })
 
 as_read : (r : List ℕ) → Sayable (read_says r) done → (d : Result Rows Refusal) × Read (read_says r) (read_gives r) d
+unfolding read_says read_gives
 as_read r (inl e) = (Ok (read_gives r), record { answers = sym e; rows = refl })
 as_read r (inr w) = (Err w.0, record { answers = w.1; rows = sym (blank r w.0 (sym w.1)) })
   where
     blank : (r : List ℕ) (q : Refusal) → read_says r ≡ refused (number_of_refusal q) → read_gives r ≡ blank_rows
-    unfolding read_says read_gives
     blank r q e = leave_refused (record_reasons r) blank_rows _ (refused_not (record_reasons r) done (number_of_refusal q) refl e)
 
 -- ---- A reference to bytes, with some place and, where they are lent to be written, some name
