@@ -11,13 +11,12 @@ ghost use Rattle.copies.specs.Copies.{TableShown, apart_from, covered_by, cover_
 use model::{Order, Refusal};
 
 // Record c of a table of n records, where it stands.
-#[tactic(auto, unfolding(model::specs::Bytes::record_in))]
+#[tactic(auto, using(parts::specs::Parts::room), unfolding(model::specs::Bytes::record_in))]
 pub fn record_at(t: &[u8], n: usize, c: usize) -> &[u8]
     requires { (n ≤ 8) × (length t.now ≡ table_size n) × (c < n) }
     ensures { Handed t.entry.ref_ptr.0 (t.entry.ref_ptr.1 + c * record_size n) (record_in n t.now c) result.ref_ptr result.now }
 {
-    let w = 4 + n * (n * (n + 1));
-    parts::part_at(t, w, c)
+    parts::part_at(t, record::record_len(n), c)
 }
 
 // The comparison of copies a and b.

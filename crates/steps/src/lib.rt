@@ -18,7 +18,7 @@ pub fn update(t: &mut [u8], p: usize) -> Result<(), Refusal>
     Ok(())
 }
 
-// Meeting of copies a and b, a named first: refusals 1 to 4, then 5, 6, 7. No copy is unrelated to itself, so 6 comes behind the comparison.
+// Meeting of copies a and b, a named first: refusals 1 to 4, then 5, 6, 7; no copy is unrelated to itself, so 6 may be tested last.
 pub fn meet(t: &mut [u8], a: usize, b: usize) -> Result<(), Refusal>
     ensures { Owed (meet_says t.old a b) (meet_leaves t.old a b ∷ []) (said_done result) (t.new ∷ []) }
 {

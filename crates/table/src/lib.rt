@@ -14,7 +14,7 @@ ghost use Rattle.table.specs.Checked.{copy_is_formed};
 use model::{Copies, Order, Refusal};
 
 // Record c of a table is well formed and has own number c.
-#[tactic(auto, unfolding(model::specs::Bytes::own_in), using(crate::proofs::Ranged::record_sizes))]
+#[tactic(auto, unfolding(model::specs::Bytes::own_in), using(crate::proofs::Sizes::record_sizes))]
 fn copy_formed(t: &[u8], n: usize, c: usize) -> bool
     requires { (2 ≤ n) × (n ≤ 8) × (length t.now ≡ table_size n) × (c < n) }
     ensures { result ≡ copy_is_formed n t.now c }

@@ -5,7 +5,7 @@ use Rattle.std.proofs.lemmas.Iterator.{YieldsList-from_range}
 use Rattle.std.proofs.lemmas.Iterator.Search.{all_from_yields_List}
 use Rattle.model.specs.Bytes.{table_is_formed}
 use Rattle.table.specs.Checked.{copy_is_formed}
-use Rattle.table.proofs.Ranged.{all_ranged}
+use Rattle.record.proofs.Ranges.{all_ranged}
 use Rattle.table.proofs.records_formed.Goals as goal
 
 pub returns : goal.returns
