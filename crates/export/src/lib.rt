@@ -3,48 +3,32 @@
 #![tactic(auto)]
 
 ghost use Rattle.std.specs.Prelude.{◌≡◌, List, [], ◌∷◌, length};
-ghost use Rattle.model.specs.Answers.{said_done, number_of_refusal, number_of_order};
+ghost use Rattle.model.specs.Answers.{said_done, said_compared};
 ghost use Rattle.model.specs.Calls.{fresh_says, fresh_leaves, check_says, update_says, update_leaves, meet_says, meet_leaves, compare_says, lend_says, lend_gives, lend_place, superfluous_says, check_record_says, compare_records_says, meet_records_says, meet_records_leaves_first, meet_records_leaves_second, read_says, read_gives, write_says, write_leaves};
 ghost use Rattle.export.specs.Exported.{number_of, values, given, passed, Exported};
 
-use model::{Compared, Done, Listed, Order, Refusal, Rows};
-
-// The refusal table's numbers.
-fn refusal_number(r: Refusal) -> u8
-    ensures { result ≡ number_of_refusal r }
-{
-    match r {
-        Refusal::Unmarked => 1,
-        Refusal::WrongN => 2,
-        Refusal::WrongLength => 3,
-        Refusal::NotWellFormed => 4,
-        Refusal::NoSuchCopy => 5,
-        Refusal::SameCopy => 6,
-        Refusal::UnrelatedSlice => 7,
-        Refusal::DifferentN => 8,
-        Refusal::Unreadable => 9,
-    }
-}
-
-// The comparison's numbers.
-fn order_number(o: Order) -> u8
-    ensures { result ≡ number_of_order o }
-{
-    match o {
-        Order::Equal => 0,
-        Order::Older => 1,
-        Order::Newer => 2,
-        Order::Conflicting => 3,
-    }
-}
+use model::{Order, Refusal, Rows};
 
 // The number to return for a call that is done or refused.
-fn number(d: Done) -> u8
-    ensures { result ≡ number_of (said_done d) }
+fn number(answer: Result<(), Refusal>) -> u8
+    ensures { result ≡ number_of (said_done answer) }
 {
-    match d {
-        Done::Ok => 0,
-        Done::Refused(r) => refusal_number(r),
+    match answer {
+        Ok(()) => 0,
+        Err(refusal) => u8::from(refusal),
+    }
+}
+
+// The number to return for a comparison; the order's number is put where there is one.
+fn number_beside(answer: Result<Order, Refusal>, order: &mut u8) -> u8
+    ensures { Exported (said_compared answer) (given (said_compared answer) (order.old ∷ []) (values (said_compared answer))) [] result (order.new ∷ []) [] }
+{
+    match answer {
+        Ok(found) => {
+            *order = u8::from(found);
+            0
+        }
+        Err(refusal) => u8::from(refusal),
     }
 }
 
@@ -85,14 +69,7 @@ pub extern "C" fn stamp_meet(t: &mut [u8], a: usize, b: usize) -> u8
 pub extern "C" fn stamp_compare(t: &[u8], a: usize, b: usize, order: &mut u8) -> u8
     ensures { Exported (compare_says t.now a b) (given (compare_says t.now a b) (order.old ∷ []) (values (compare_says t.now a b))) [] result (order.new ∷ []) [] }
 {
-    let c = table::compare(t, a, b);
-    match c {
-        Compared::Refused(r) => refusal_number(r),
-        Compared::As(o) => {
-            *order = order_number(o);
-            0
-        }
-    }
+    number_beside(table::compare(t, a, b), order)
 }
 
 // Lending record i: where it starts in the table, and how long it is.
@@ -101,12 +78,11 @@ pub extern "C" fn stamp_lend(t: &[u8], i: usize, start: &mut usize, size: &mut u
     ensures { Exported (lend_says t.now i) (given (lend_says t.now i) (start.old ∷ size.old ∷ []) (lend_place t.now i ∷ length (lend_gives t.now i) ∷ [])) [] result (start.new ∷ size.new ∷ []) [] }
 {
     let part = table::lend(t, i);
-    let long = part.len();
-    if long == 0 {
+    if part.is_empty() {
         return number(table::lend_number(t, i));
     }
-    *start = i * long;
-    *size = long;
+    *start = i * part.len();
+    *size = part.len();
     0
 }
 
@@ -115,14 +91,13 @@ pub extern "C" fn stamp_lend(t: &[u8], i: usize, start: &mut usize, size: &mut u
 pub extern "C" fn stamp_superfluous(t: &[u8], mask: &mut u8, count: &mut u8) -> u8
     ensures { Exported (superfluous_says t.now) (given (superfluous_says t.now) (mask.old ∷ count.old ∷ []) (values (superfluous_says t.now))) [] result (mask.new ∷ count.new ∷ []) [] }
 {
-    let l = table::list_superfluous(t);
-    match l {
-        Listed::Refused(r) => refusal_number(r),
-        Listed::Copies { mask: m, count: c } => {
-            *mask = m;
-            *count = c;
+    match table::list_superfluous(t) {
+        Ok(copies) => {
+            *mask = copies.mask;
+            *count = copies.count;
             0
         }
+        Err(refusal) => u8::from(refusal),
     }
 }
 
@@ -139,14 +114,7 @@ pub extern "C" fn stamp_check_record(r: &[u8]) -> u8
 pub extern "C" fn stamp_compare_records(a: &[u8], b: &[u8], order: &mut u8) -> u8
     ensures { Exported (compare_records_says a.now b.now) (given (compare_records_says a.now b.now) (order.old ∷ []) (values (compare_records_says a.now b.now))) [] result (order.new ∷ []) [] }
 {
-    let c = loose::compare_records(a, b);
-    match c {
-        Compared::Refused(r) => refusal_number(r),
-        Compared::As(o) => {
-            *order = order_number(o);
-            0
-        }
-    }
+    number_beside(loose::compare_records(a, b), order)
 }
 
 // Meeting of two loose records, the one named first as a.
@@ -168,19 +136,16 @@ pub extern "C" fn stamp_read_rows(
 ) -> u8
     ensures { Exported (read_says r.now) (given (read_says r.now) (n.old ∷ own.old ∷ []) ((read_gives r.now).n ∷ (read_gives r.now).own ∷ [])) (given (read_says r.now) (lengths.old ∷ cells.old ∷ []) ((read_gives r.now).lengths ∷ (read_gives r.now).cells ∷ [])) result (n.new ∷ own.new ∷ []) (lengths.new ∷ cells.new ∷ []) }
 {
-    let x = reading::read_rows(r);
-    let d = x.answer;
-    let Done::Ok = d else {
-        return number(d);
-    };
-    let rows = x.rows;
-    let l = rows.lengths;
-    let c = rows.cells;
-    *n = rows.n;
-    *own = rows.own;
-    *lengths = l;
-    *cells = c;
-    0
+    match reading::read_rows(r) {
+        Ok(rows) => {
+            *n = rows.n;
+            *own = rows.own;
+            lengths.copy_from_slice(&rows.lengths);
+            cells.copy_from_slice(&rows.cells);
+            0
+        }
+        Err(refusal) => u8::from(refusal),
+    }
 }
 
 // Writing of rows into a lent buffer.
@@ -194,13 +159,11 @@ pub extern "C" fn stamp_write_rows(
 ) -> u8
     ensures { Exported (write_says r.old (passed n own lengths.now cells.now)) [] (write_leaves r.old (passed n own lengths.now cells.now) ∷ []) result [] (r.new ∷ []) }
 {
-    let l = *lengths;
-    let c = *cells;
     let rows = Rows {
-        n: n,
-        own: own,
-        lengths: l,
-        cells: c,
+        n,
+        own,
+        lengths: *lengths,
+        cells: *cells,
     };
     number(writing::write_rows(r, rows))
 }
