@@ -39,7 +39,8 @@ fn letter_of(c: Option<Command>) -> u8
     }
 }
 
-// The table, in the first `size` bytes of a buffer that holds the largest.
+// The table, in the first `size` bytes of a buffer that holds the largest. That it fits stands in the methods' clauses: a struct with a
+// ghost field cannot lend its buffer as `&mut`.
 #[derive(Drop)]
 struct Table {
     buffer: [u8; 4640],
