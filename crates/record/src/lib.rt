@@ -98,7 +98,7 @@ pub fn record_len(n: usize) -> usize
 }
 
 // N of the header of a record or a table: refusal 1, then 2.
-#[tactic(auto, unfolding(model::specs::Answers::answer, model::specs::Bytes::copies_in, model::specs::Bytes::is_in_range, crate::specs::Told::header_reasons))]
+#[tactic(auto, unfolding(model::specs::Answers::answer, model::specs::Bytes::copies_in, model::specs::Bytes::is_in_range, model::specs::Calls::form_reasons, crate::specs::Told::header_reasons))]
 pub fn copies_told(b: &[u8]) -> Result<usize, Refusal>
     ensures answers { said (λ _. done) result ≡ answer (header_reasons b.now) done }
     ensures copies { IfOk result (λ n. n ≡ copies_in b.now) }
