@@ -18,6 +18,7 @@ use Rattle.row.proofs.new_head.Reads as of·new-head
 use Rattle.row.proofs.symbols.Reads as of·symbols
 use Rattle.row.proofs.write_row.Reads as of·write-row
 use Rattle.row.proofs.cut_row.Reads as of·cut-row
+use Rattle.slice.proofs.slice_len.Reads as of·slice-len
 use Rattle.slice.proofs.slice_at.Reads as of·slice-at
 use Rattle.slice.proofs.row_in.Reads as of·row-in
 use Rattle.slice.proofs.head_in.Reads as of·head-in
@@ -90,6 +91,9 @@ pub cut_row_fixed : (κs : Lfts 2) → Fixed (of·cut-row.Learnt κs) (λ r s. r
 cut_row_fixed κs a r r' s s' p q = p ∙ sym q
 
 -- ---- slice
+
+pub slice_len_fixed : (κs : Lfts 0) → Fixed (of·slice-len.Learnt κs) (λ r s. r)
+slice_len_fixed κs a r r' s s' p q = p ∙ sym q
 
 pub slice_at_fixed : (κs : Lfts 1) → Fixed (of·slice-at.Learnt κs) (λ r s. seen_part r.ref_ptr r.now)
 slice_at_fixed κs a r r' s s' p q = handed_same p q

@@ -21,7 +21,7 @@ fn size_with(n: usize) -> usize
     ensures { (result ≡ size_with_n 0 n) × (result ≤ 4640) }
 {
     match n {
-        2..=8 => n * (4 + n * (n * (n + 1))),
+        2..=8 => n * record::record_len(n),
         _ => 0,
     }
 }

@@ -40,7 +40,7 @@ fn fresh_record(r: &mut [u8], n: usize, own: usize)
 {
     record::put_header(r, n, own);
     let s = fresh_slice(n);
-    repeat(r, 4, &s[..n * (n + 1)], n);
+    repeat(r, 4, &s[..slice::slice_len(n)], n);
 }
 
 // Every record of a fresh table.

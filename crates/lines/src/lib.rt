@@ -48,7 +48,7 @@ fn read_number(w: &[u8]) -> Option<usize>
         if !c.is_ascii_digit() {
             return None;
         }
-        v = v * 10 + (c - b'0') as usize;
+        v = v * 10 + usize::from(c - b'0');
         if 255 < v {
             return None;
         }

@@ -11,8 +11,7 @@ pub fn put_slice(r: &mut [u8], n: usize, p: usize, v: &[u8])
     requires { (n ≤ 8) × (length r.old ≡ record_size n) × (p < n) × (length v.now ≡ slice_size n) }
     ensures { r.new ≡ written (header_size + p * slice_size n) v.now r.old }
 {
-    let w = n * (n + 1);
-    parts::copy(r, 4 + p * w, v);
+    parts::copy(r, 4 + p * slice::slice_len(n), v);
 }
 
 // The meeting of record x with own number a and record y with own number b, a named first.
@@ -20,7 +19,7 @@ pub fn meet_pair(x: &mut [u8], y: &mut [u8], n: usize, a: usize, b: usize)
     requires { WellPair n a b x.old y.old }
     ensures { PairMet n a b x.old y.old x.new y.new }
 {
-    let w = n * (n + 1);
+    let w = slice::slice_len(n);
     for p in 0..n {
         let (u, v) = meeting_slice::met(x, y, n, a, b, p);
         put_slice(x, n, p, &u[..w]);

@@ -46,7 +46,7 @@ fn put_refused(out: &mut [u8], at: usize, x: Refusal) -> usize
     ensures { Put (answer_text (refused (number_of_refusal x))) at out.old out.new result × (result ≤ at + 11) }
 {
     let next = put(out, at, b"refused ");
-    put_number(out, next, u8::from(x) as usize)
+    put_number(out, next, usize::from(u8::from(x)))
 }
 
 // The comparison's name.
@@ -67,9 +67,9 @@ fn put_copies(out: &mut [u8], at: usize, x: Copies) -> usize
     requires { at ≤ 2 ^ 31 }
     ensures { Put (answer_text (listed x.mask x.count)) at out.old out.new result × (result ≤ at + 11) }
 {
-    let next = put_number(out, at, x.mask as usize);
+    let next = put_number(out, at, usize::from(x.mask));
     let then = put(out, next, b" ");
-    put_number(out, then, x.count as usize)
+    put_number(out, then, usize::from(x.count))
 }
 
 #[tactic(auto, unfolding(crate::specs::Printed::answer_text))]

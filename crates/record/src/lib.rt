@@ -45,7 +45,7 @@ fn slices_formed(r: &[u8], n: usize, own: usize) -> bool
     ensures { result ≡ all n (λ p. slice_is_formed n own (slice_in n r.now p)) }
 {
     r[4..]
-        .chunks_exact(n * (n + 1))
+        .chunks_exact(slice::slice_len(n))
         .all(|s| slice_formed(s, n, own))
 }
 
@@ -94,7 +94,7 @@ pub fn record_len(n: usize) -> usize
     requires { n ≤ 8 }
     ensures { result ≡ record_size n }
 {
-    4 + n * (n * (n + 1))
+    4 + n * slice::slice_len(n)
 }
 
 // N of the header of a record or a table: refusal 1, then 2.

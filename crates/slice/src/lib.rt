@@ -7,13 +7,20 @@ ghost use Rattle.model.specs.Tests.{head};
 ghost use Rattle.model.specs.Bytes.{row_in_slice, slice_in, record_rows, record_size, slice_size, row_size};
 ghost use Rattle.slice.specs.Shown.{SliceShown, RecordShown, row_place};
 
+// How many bytes a slice of n rows has.
+pub fn slice_len(n: usize) -> usize
+    requires { n ≤ 8 }
+    ensures { result ≡ slice_size n }
+{
+    n * (n + 1)
+}
+
 // Slice p of a record, where it stands.
 pub fn slice_at(r: &[u8], n: usize, p: usize) -> &[u8]
     requires { (n ≤ 8) × (length r.now ≡ record_size n) × (p < n) }
     ensures { Handed r.entry.ref_ptr.0 (r.entry.ref_ptr.1 + (4 + p * slice_size n)) (slice_in n r.now p) result.ref_ptr result.now }
 {
-    let w = n * (n + 1);
-    parts::part_at(&r[4..], w, p)
+    parts::part_at(&r[4..], slice_len(n), p)
 }
 
 // The symbols of row k of a slice, where they stand.

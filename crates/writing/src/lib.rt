@@ -33,7 +33,8 @@ fn passed_formed(rows: &Rows) -> bool
     ensures own { IsTrue result → rows.now.own < rows.now.n }
 {
     let (n, own) = (rows.n, rows.own);
-    own < n && (0..n).all(|p| record::slice_formed(&slice_passed(rows, p)[..n * (n + 1)], n, own))
+    let w = slice::slice_len(n);
+    own < n && (0..n).all(|p| record::slice_formed(&slice_passed(rows, p)[..w], n, own))
 }
 
 // The record, over the old bytes: its header, then slice by slice.
@@ -43,7 +44,7 @@ fn put_record(r: &mut [u8], rows: &Rows)
 {
     let n = rows.n;
     record::put_header(r, n, rows.own);
-    let w = n * (n + 1);
+    let w = slice::slice_len(n);
     for p in 0..n {
         parts::copy(r, 4 + p * w, &slice_passed(rows, p)[..w]);
     }

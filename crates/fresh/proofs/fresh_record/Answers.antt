@@ -16,7 +16,7 @@ returns c =
     let v : List ℕ = take (slice_size n) c.fresh_slice-s.result in
     let wide : length v ≡ slice_size n = ap length c.fresh_slice-s.ensures ∙ length-fresh_slice n c.requires.0 in
     let long : length (join n (λ p. v)) ≡ n * slice_size n = rw wide at (length_repeated n v) in
-    c.repeat.ensures
+    (rw c.slice_len.ensures at c.repeat.ensures)
     ∙ ap (written 4 (join n (λ p. v))) c.put_header.ensures
     ∙ header_body (header_bytes n c.args.own (λ p c. [])) (join n (λ p. v)) c.args.r.now (header_four n c.args.own) (omega (arith, c.requires.3))
     ∙ fresh_record_bytes n c.args.own v c.fresh_slice-s.ensures

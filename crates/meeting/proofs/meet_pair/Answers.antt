@@ -11,7 +11,7 @@ met-requires c = (going_shown c.requires c.loop-p.invariant, omega arith)
 
 pub loop-p-preserved : goal.loop-p-preserved
 loop-p-preserved c =
-    going_next c.requires c.loop-p.invariant _ _ (omega arith) c.met.ensures c.put_slice.ensures c.put_slice-in-loop-p.ensures
+    going_next c.requires c.loop-p.invariant _ _ (omega arith) c.met.ensures (rw c.slice_len-w.ensures at c.put_slice.ensures) (rw c.slice_len-w.ensures at c.put_slice-in-loop-p.ensures)
 
 pub returns : goal.returns
 returns c = going_done c.requires c.loop-p.invariant (omega arith)

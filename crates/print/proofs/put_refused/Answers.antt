@@ -10,5 +10,5 @@ pub returns : goal.returns
 unfolding answer_text
 returns c =
     let x = c.args.x in
-    let q = rw c.from.ensures at c.put_number.ensures in
+    let q = rw c.from.ensures at (rw c.from-2.ensures at c.put_number.ensures) in
     (put_then c.put-next.ensures q, omega (arith, c.put-next.ensures.next, q.next, decimal_few 1 (number_of_refusal x) (omega arith) (refusal_few x)))

@@ -15,6 +15,6 @@ returns c =
     let r = c.args.r.now in
     let some : 1 ≤ n = omega arith in
     all_from_yields_List (slice_is_formed n c.args.own) _ _ c.all.result c.all.ensures.ran
-    (YieldsList-from_parts (n * (n + 1)) (mul-pos some (omega arith)) _ n c.chunks_exact.result (c.chunks_exact.ensures.rest ∙ take_rest r 4) c.chunks_exact.ensures.size (simp length-drop (omega arith)))
+    (YieldsList-from_parts (n * (n + 1)) (mul-pos some (omega arith)) _ n c.chunks_exact.result (c.chunks_exact.ensures.rest ∙ take_rest r 4) (c.chunks_exact.ensures.size ∙ c.slice_len.ensures) (simp length-drop (omega arith)))
     (λ x b q k. search (rules, tests))
     ∙ chunks_all (n * (n + 1)) n _ (slice_is_formed n c.args.own)
