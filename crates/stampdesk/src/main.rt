@@ -7,7 +7,7 @@ ghost use Rattle.std.specs.Prelude.{◌≡◌, ◌≤◌, length, IfOk};
 use std::io;
 use std::io::{Read, Stdin, Write};
 
-// What is read up to the end of the input or of the room: how many bytes.
+// How many bytes are read up to the end of the input or of the room; a single read may give fewer, and none at the end.
 fn read_all(input: &mut Stdin, buf: &mut [u8]) -> io::Result<usize>
     ensures { IfOk result (λ n. n ≤ length buf.old) }
 {
