@@ -1,4 +1,5 @@
-// The copies of a checked table: the record of each where it stands, how two compare, which are superfluous.
+// The copies of a checked table: the record of each where it stands, how two compare, which are superfluous. What the check has shown
+// stands in clauses, not in a type: `compare_copies_fixed` and `against_others_fixed` of demands read them on any bytes.
 #![tactic(auto)]
 
 ghost use Rattle.std.specs.Prelude.{◌≡◌, ◌+◌, ◌*◌, ◌<◌, ◌≤◌, length};

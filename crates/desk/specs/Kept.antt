@@ -71,7 +71,7 @@ room_accepts n = go (is_in_range n)
     go true = rw (length-replicate {0} {A = ℕ} (table_size n) 0, eq-eqb (table_size n) (table_size n) refl)
     go false = refl
 
-room_answers : (n : ℕ) → fresh_says (room_for n) n ≡ cond (is_in_range n) done (refused 2)
+pub room_answers : (n : ℕ) → fresh_says (room_for n) n ≡ cond (is_in_range n) done (refused 2)
 unfolding fresh_says answer fresh_reasons room_for size_with_n
 room_answers n = go (is_in_range n)
   where
@@ -88,7 +88,7 @@ module _ (s n size : ℕ) (before last : List ℕ) {said : Said} (sized : s ≡ 
       reasons_same n (take s before) (replicate (size_with_n 0 n) 0)
       (length-take-le s before fits ∙ sized ∙ sym (length-replicate {0} {A = ℕ} (size_with_n 0 n) 0))
 
-  fresh_answers : said ≡ fresh_says (room_for n) n
+  pub fresh_answers : said ≡ fresh_says (room_for n) n
   unfolding fresh_says
   fresh_answers = owed.answers ∙ rw room_same
 

@@ -39,7 +39,7 @@ fn letter_of(c: Option<Command>) -> u8
     }
 }
 
-// The table, in the first `size` bytes of a buffer that holds the largest. That it fits stands in the methods' clauses: a struct with a
+// The table, in the first `size` bytes of a buffer that holds the largest (there is no heap). That it fits stands in the methods' clauses: a struct with a
 // ghost field cannot lend its buffer as `&mut`.
 #[derive(Drop)]
 struct Table {
@@ -70,7 +70,7 @@ impl Table {
         Ok(())
     }
 
-    // Call c on the table.
+    // Call c on the table. The calls differ in what they take and give, so that a closure for each would be no plainer.
     #[tactic(auto, unfolding(crate::specs::Desk::call_says, crate::specs::Desk::call_leaves), using(crate::specs::Kept::lent_front))]
     fn call(&mut self, c: Option<Command>) -> Result<Answer, Refusal>
         requires { self.old.size ≤ 4640 }

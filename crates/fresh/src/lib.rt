@@ -22,7 +22,7 @@ fn repeat(dst: &mut [u8], at: usize, src: &[u8], n: usize)
     }
 }
 
-// A fresh slice, in the front of 72 bytes.
+// A fresh slice, in the front of 72 bytes: there is no heap, and the longest slice has as many.
 fn fresh_slice(n: usize) -> [u8; 72]
     requires { (1 ≤ n) × (n ≤ 8) }
     ensures { take (slice_size n) result ≡ slice_bytes n (λ k. 0 ∷ []) }

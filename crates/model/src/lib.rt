@@ -81,7 +81,8 @@ pub struct Copies {
     pub count: u8,
 }
 
-// The rows of one record. Row k of slice p has its length at p * 8 + k and its cells from (p * 8 + k) * 8.
+// The rows of one record. Row k of slice p has its length at p * 8 + k and its cells from (p * 8 + k) * 8: the two arrays that C passes
+// and gets (`stamp_write_rows`, `stamp_read_rows`).
 #[derive(Clone, Copy)]
 pub struct Rows {
     pub n: usize,

@@ -1,4 +1,5 @@
-// Two records side by side: the answer of each slice, and the comparison.
+// Two records side by side: the answer of each slice, and the comparison. The pair is five parameters and a clause, not a type:
+// `winning_hands` and `compare_pair_fixed` of demands read these promises by their parameters.
 #![tactic(auto)]
 
 ghost use Rattle.std.specs.Prelude.{◌≡◌, cond, ◌+◌, ◌<◌, length};

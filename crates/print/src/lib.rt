@@ -30,7 +30,7 @@ pub fn put(out: &mut [u8], at: usize, text: &[u8]) -> usize
     at + text.len()
 }
 
-// A number in decimal.
+// A number in decimal, by way of the 20 bytes that `io::decimal` asks for.
 fn put_number(out: &mut [u8], at: usize, n: usize) -> usize
     requires { at ≤ 2 ^ 32 }
     ensures { Put (decimal n) at out.old out.new result }

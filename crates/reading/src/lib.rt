@@ -9,7 +9,8 @@ ghost use Rattle.slice.specs.Shown.{RecordShown};
 
 use model::{Refusal, Rows};
 
-// Row i of the room: row i % 8 of slice i / 8, if both are below N.
+// Row i of the room: row i % 8 of slice i / 8, if both are below N. A record with its fact as a type would serve two functions here and
+// be taken apart again for `slice::row_of`.
 #[tactic(auto, using(slice::specs::Places::row_of_length), unfolding(model::specs::Calls::is_within))]
 fn room_row(r: &[u8], n: usize, i: usize) -> Option<&[u8]>
     requires { RecordShown n r.now }

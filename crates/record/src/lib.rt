@@ -1,4 +1,6 @@
 // One record in bytes: is it well formed, and the check of a loose record. Each promise cites document 01's definitions of crate model.
+// N is a number and its bounds are clauses, as in the theorems of demands (`record_formed_fixed`): a type for 2 to 8 would be taken apart
+// at each length.
 #![tactic(auto)]
 
 ghost use Rattle.std.specs.Prelude.{◌≡◌, [], ◌<◌, ◌≤◌, length, IfOk};

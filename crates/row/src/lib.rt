@@ -48,7 +48,7 @@ pub fn write_row(dst: &mut [u8], n: usize, l: &[u8])
     dst[1 + l.len()..].fill(0xFF);
 }
 
-// The row w cut down to the symbols that stand in hs, as a row of 8 cells.
+// The row w cut down to the symbols that stand in hs, as a row of 8 cells: the bytes that are written, the length among them.
 pub fn cut_row(w: &[u8], hs: &[u8]) -> [u8; 9]
     requires { length w.now ≤ 8 }
     ensures { result ≡ row_bytes 8 (keep (λ x. is_in x hs.now) w.now) }

@@ -1,4 +1,5 @@
-// One slice of a record and one row of a slice, where they stand. Each asks for what the check has shown.
+// One slice of a record and one row of a slice, where they stand. Each asks for what the check has shown, in a clause and not by a type
+// that carries it: theorems of demands (`row_in_fixed`, `head_in_fixed`, `row_of_fixed`) read these promises on any bytes and numbers.
 #![tactic(auto)]
 
 ghost use Rattle.std.specs.Prelude.{◌≡◌, ◌+◌, ◌*◌, ◌<◌, ◌≤◌, length};

@@ -68,7 +68,8 @@ pub fn lend_number(t: &[u8], i: usize) -> Result<(), Refusal>
     Ok(())
 }
 
-// Lending record i: that part of the table, or the empty part where lend_number refuses.
+// Lending record i: that part of the table, or the empty part where lend_number refuses. It cannot fail: `lend_hands` of demands says
+// what it hands for any input.
 pub fn lend(t: &[u8], i: usize) -> &[u8]
     ensures { Handed t.entry.ref_ptr.0 (t.entry.ref_ptr.1 + lend_place t.now i) (lend_gives t.now i) result.ref_ptr result.now }
 {

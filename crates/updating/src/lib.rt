@@ -1,4 +1,5 @@
-// The update of one copy of a checked table, in place: the new row is there by value before one byte is written.
+// The update of one copy of a checked table, in place: the new row is there by value before one byte is written. The promises on lent
+// bytes, and a row as 9 bytes, stay by `new_row_fixed`, `put_row_fixed` and `update_in_fixed` of demands.
 #![tactic(auto)]
 
 ghost use Rattle.std.specs.Prelude.{◌≡◌, ◌∷◌, ◌+◌, ◌-◌, ◌<◌, ◌≤◌, length, get_or, take};

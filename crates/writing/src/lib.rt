@@ -10,7 +10,8 @@ ghost use Rattle.model.specs.Promises.{Owed};
 
 use model::{Refusal, Rows};
 
-// Slice p of the record that would be written: for each row its length and the first N cells of its room.
+// Slice p of the record that would be written: for each row its length and the first N cells of its room. It stands in the front of an
+// array, as there is no heap.
 fn slice_passed(rows: &Rows, p: usize) -> [u8; 72]
     requires { (rows.now.n ≤ 8) × (p < rows.now.n) }
     ensures { take (slice_size rows.now.n) result ≡ join rows.now.n (row_passed rows.now p) }
