@@ -39,8 +39,8 @@ fn letter_of(c: Option<Command>) -> u8
     }
 }
 
-// The table, in the first `size` bytes of a buffer that holds the largest (there is no heap). That it fits stands in the methods' clauses: a struct with a
-// ghost field cannot lend its buffer as `&mut`.
+// The table, in the first `size` bytes of a buffer that holds the largest, as there is no heap. That it fits stands in the methods'
+// clauses: a struct with a ghost field cannot lend its buffer as `&mut`.
 #[derive(Drop)]
 struct Table {
     buffer: [u8; 4640],
