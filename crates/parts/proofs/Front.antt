@@ -2,7 +2,7 @@
 use mathlib.Core.Path.{◌≡◌, refl, sym, ap, ◌∙◌, ap₂}
 use mathlib.Core.List.{List, ◌++◌, append_assoc, append-nil}
 use Prim.Native.Nat.{ℕ, ◌+◌, ◌*◌, ◌-◌, ◌≤◌, ◌<◌}
-use native.Mathlib.Nat.{add-sub_cancel_left, zero-mul, add-zero, suc-mul, zero-add, add-mul}
+use native.Mathlib.Nat.{add-sub_cancel_left, zero-mul, add-zero, suc-mul, add-mul}
 use native.Mathlib.Numerals.{add-one}
 use native.Mathlib.Omega.{arith}
 use lib.ListN.{length, take, drop, take-append-drop}
@@ -76,10 +76,6 @@ module _ {h w s : ℕ} {f : ℕ → List ℕ} {old l : List ℕ} (so : Front h w
       ∙ ap₂ ◌++◌ so.done so.rest
       ∙ append_assoc (take h old) (join s f) (drop (h + s * w) old)
       ∙ ap (λ (m : ℕ). take h old ++ (join s f ++ drop (h + m) old)) (sym wide)
-
--- The first parts, joined, where no header stands before them.
-pub front_joined : {w s n : ℕ} {f : ℕ → List ℕ} {old l : List ℕ} → Front 0 w s f old l → s ≡ n → take (n * w) l ≡ join n f
-front_joined so e = rw (← e) (rw zero-add at so.done)
 
 -- A part that was lent and comes back as v is written there.
 pub lent_back : (at w : ℕ) (v l : List ℕ) → length v ≡ w → put_mid at (at + w - at) l v ≡ written at v l

@@ -1,4 +1,3 @@
 pub mod Scan
 pub mod Rows
 pub mod Cut
-pub mod Heads

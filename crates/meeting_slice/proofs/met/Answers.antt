@@ -6,7 +6,6 @@ use Rattle.row.specs.Tab.{tab, length-tab}
 use Rattle.meeting_slice.specs.NewRows.{heads_a_wins, heads_b_wins, rows_met}
 use Rattle.meeting_slice.specs.Met.{cut_front}
 use Rattle.meeting_slice.proofs.met.Goals as goal
-use Rattle.meeting_slice.proofs.met.Goals.{then-b_wins, else-b_wins}
 
 pub new_rows-u-requires : goal.new_rows-u-requires
 new_rows-u-requires c = search (rules, length-tab)

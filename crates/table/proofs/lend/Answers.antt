@@ -1,7 +1,6 @@
 -- `table::lend` meets its contract: the record where it stands, or the empty part at the table's start. Assumes nothing.
 use Rattle.std.proofs.Common.{arith, refl, sym, ◌∙◌}
 use Rattle.model.specs.Bytes.{copies_in}
-use Rattle.table.specs.Checked.{well_long}
 use Rattle.table.specs.Lending.{said_ok, said_err, lend_passed, lent, not_lent}
 use Rattle.table.proofs.lend.Goals as goal
 
@@ -10,11 +9,6 @@ returns-then-is_err c =
     let out = said_err c.lend_number.result (sym c.if-is_err.ensures.value) in
     let e = not_lent c.args.t.now c.args.i (sym c.lend_number.ensures.answers ∙ out.1) in
     record { within = refl; at = omega (arith, e.1); bytes = sym e.0 }
-
-pub bounds-t-2 : goal.bounds-t-2
-bounds-t-2 c =
-    let ok = sym c.lend_number.ensures.answers ∙ said_ok c.lend_number.result (sym c.if-is_err.ensures.value) in
-    omega (arith, well_long (lend_passed c.args.t.now c.args.i ok).0)
 
 pub record_at-requires : goal.record_at-requires
 unfolding copies_in
