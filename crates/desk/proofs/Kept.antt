@@ -8,7 +8,7 @@ use Rattle.model.specs.Calls.{fresh_says, fresh_leaves}
 use Rattle.model.specs.Promises.{Owed}
 use Rattle.lines.specs.declared.Command.TheVariants.{Fresh}
 use Rattle.desk.specs.Desk.{size_with_n}
-use Rattle.desk.specs.Kept.{Kept, fresh_answers, room_answers, renewed, not_renewed}
+use Rattle.desk.specs.Kept.{Kept, fresh_answers, room_answers, renewed_done, renewed_refused}
 
 module _ (s n size : ℕ) (before last : List ℕ) {said : Said} (sized : s ≡ size_with_n 0 n) (fits : s ≤ length before) (long : length last ≡ length (take s before))
     (owed : Owed (fresh_says (take s before) n) (fresh_leaves (take s before) n ∷ []) said (last ∷ [])) where
@@ -20,7 +20,7 @@ module _ (s n size : ℕ) (before last : List ℕ) {said : Said} (sized : s ≡ 
           → Kept (Some (Fresh n)) (take size before) (take (size_with_n size n) (last ++ drop s before)) said
       go true e a =
           let same : size_with_n size n ≡ s = (rw e) ∙ sym sized in
-          rw same (renewed s n size before last sized fits long owed (rw e at a))
+          rw same (renewed_done s n size before last sized fits long owed (rw e at a))
       go false e a =
           let kept : size_with_n size n ≡ size = rw e in
-          rw kept (not_renewed s n size before last sized fits long owed 2 (rw e at a))
+          rw kept (renewed_refused s n size before last sized fits long owed 2 (rw e at a))

@@ -57,6 +57,24 @@ all_of s none e = rw none at e
 
 -- ---- `I n`
 
+-- `I n` in the front of the buffer, where N is 2 to 8.
+pub record Renewed (n : ℕ) (before after : List ℕ) (said : Said) : Type 0 where
+  pub fits : size_with_n 0 n ≤ 4640
+  pub says : said ≡ fresh_says (take (size_with_n 0 n) before) n
+  pub front : take (size_with_n 0 n) after ≡ fresh_leaves (take (size_with_n 0 n) before) n
+  pub rest : drop (size_with_n 0 n) after ≡ drop (size_with_n 0 n) before
+
+pub renewed : (s n : ℕ) (before last : List ℕ) (said : Said) → s ≡ size_with_n 0 n → s ≤ 4640 → length before ≡ 4640 → length last ≡ length (take s before)
+    → Owed (fresh_says (take s before) n) (fresh_leaves (take s before) n ∷ []) said (last ∷ []) → Renewed n before (last ++ drop s before) said
+renewed s n before last said e fits all long owed =
+    let within : s ≤ length before = omega arith in
+    record {
+      fits = rw (← e) fits;
+      says = rw (← e) owed.answers;
+      front = rw (← e) (lent_front s before within long owed);
+      rest = rw (← e) (lent_rest s before within long owed);
+    }
+
 -- Fresh looks at nothing of the buffer but its length.
 reasons_same : (n : ℕ) (x y : List ℕ) → length x ≡ length y → fresh_reasons x n ≡ fresh_reasons y n
 unfolding fresh_reasons
@@ -93,9 +111,9 @@ module _ (s n size : ℕ) (before last : List ℕ) {said : Said} (sized : s ≡ 
   fresh_answers = owed.answers ∙ rw room_same
 
   -- Where it is done, the fresh table stands in the front.
-  pub renewed : said ≡ done → Kept (Some (Fresh n)) (take size before) (take s (last ++ drop s before)) said
+  pub renewed_done : said ≡ done → Kept (Some (Fresh n)) (take size before) (take s (last ++ drop s before)) said
   unfolding call_says call_leaves fresh_leaves leave
-  renewed e = record { says = fresh_answers; leaves = go (is_in_range n) refl (sym e ∙ fresh_answers ∙ room_answers n) }
+  renewed_done e = record { says = fresh_answers; leaves = go (is_in_range n) refl (sym e ∙ fresh_answers ∙ room_answers n) }
     where
       go : (b : Bool) → is_in_range n ≡ b → done ≡ cond (is_in_range n) done (refused 2)
           → take s (last ++ drop s before)
@@ -104,9 +122,9 @@ module _ (s n size : ℕ) (before last : List ℕ) {said : Said} (sized : s ≡ 
       go false e d = absurd (let x : done ≡ refused 2 = rw e at d in cc)
 
   -- Where it is refused, the old one.
-  pub not_renewed : (k : ℕ) → said ≡ refused k → Kept (Some (Fresh n)) (take size before) (take size (last ++ drop s before)) said
+  pub renewed_refused : (k : ℕ) → said ≡ refused k → Kept (Some (Fresh n)) (take size before) (take size (last ++ drop s before)) said
   unfolding call_says call_leaves leave
-  not_renewed k e = record { says = fresh_answers; leaves = go (is_in_range n) refl (sym e ∙ fresh_answers ∙ room_answers n) }
+  renewed_refused k e = record { says = fresh_answers; leaves = go (is_in_range n) refl (sym e ∙ fresh_answers ∙ room_answers n) }
     where
       go : (b : Bool) → is_in_range n ≡ b → refused k ≡ cond (is_in_range n) done (refused 2)
           → take size (last ++ drop s before)

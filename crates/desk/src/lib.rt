@@ -15,7 +15,7 @@ use lines::Command;
 use model::Refusal;
 use print::Answer;
 
-// The size of a fresh table of n copies; none where N is not 2 to 8.
+// The size of the front in which `I n` makes its table: nothing of the buffer where N is not 2 to 8, which `fresh` then refuses.
 #[tactic(auto, unfolding(crate::specs::Desk::size_with_n, model::specs::Bytes::is_in_range), using(crate::specs::Kept::table_most))]
 fn size_with(n: usize) -> usize
     ensures { (result ≡ size_with_n 0 n) × (result ≤ 4640) }
@@ -39,8 +39,8 @@ fn letter_of(c: Option<Command>) -> u8
     }
 }
 
-// The table, in the first `size` bytes of a buffer that holds the largest, as there is no heap. That it fits stands in the methods'
-// clauses: a struct with a ghost field cannot lend its buffer as `&mut`.
+// The table, in the first `size` bytes of a buffer that holds the largest: a call is lent that front as it is, and `I n` makes another.
+// That it fits stands in the methods' clauses: a struct with a ghost field cannot lend its buffer as `&mut`.
 #[derive(Drop)]
 struct Table {
     buffer: [u8; 4640],
@@ -117,7 +117,7 @@ fn run_lines(input: &[u8], out: &mut [u8], start: usize) -> usize
     let mut rest = input;
     let mut k = 0;
     let mut at = start;
-    // Where a line ends is the promise of `place_of`, so this is no `split_inclusive`.
+    // Each line ends where `place_of` says; `split_inclusive` would hand it over with its newline, to be cut off again.
     while !rest.is_empty() {
         let end = lines::place_of(rest, b'\n');
         k += 1;

@@ -1,5 +1,5 @@
-// The calls of document 01 under C names. C takes no `Result`: each returns 0 where the call is done or answered, else the refusal's number; an
-// out-parameter keeps its value at a refusal. None asks anything of its input. c/stamps.h declares them for C.
+// The calls of document 01 under C names. C takes no `Result`: each returns 0 where the call is done or answered, else the refusal's
+// number; an out-parameter keeps its value at a refusal. None asks anything of its input. c/stamps.h declares them for C.
 #![tactic(auto)]
 
 ghost use Rattle.std.specs.Prelude.{◌≡◌, List, [], ◌∷◌, length};

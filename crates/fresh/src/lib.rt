@@ -1,4 +1,5 @@
 // A fresh table: every row of every slice is the single symbol 0.
+// N's bounds are clauses, as in `record`.
 #![tactic(auto)]
 
 ghost use Rattle.std.specs.Prelude.{◌≡◌, [], ◌∷◌, ◌+◌, ◌*◌, ◌≤◌, ◌<◌, length, take};
@@ -22,7 +23,7 @@ fn repeat(dst: &mut [u8], at: usize, src: &[u8], n: usize)
     }
 }
 
-// A fresh slice, in the front of 72 bytes: there is no heap, and the longest slice has as many.
+// A fresh slice, in the front of 72 bytes. An `ArrayVec` takes bytes by calls with an Err that cannot come, and is no plainer.
 fn fresh_slice(n: usize) -> [u8; 72]
     requires { (1 ≤ n) × (n ≤ 8) }
     ensures { take (slice_size n) result ≡ slice_bytes n (λ k. 0 ∷ []) }

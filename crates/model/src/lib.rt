@@ -83,7 +83,7 @@ pub struct Copies {
 
 // The rows of one record. Row k of slice p has its length at p * 8 + k and its cells from (p * 8 + k) * 8: the two arrays that C passes
 // and gets (`stamp_write_rows`, `stamp_read_rows`).
-#[derive(Clone, Copy)]
+#[derive(Clone, Copy, Debug, PartialEq, Eq, Hash)]
 pub struct Rows {
     pub n: usize,
     pub own: usize,

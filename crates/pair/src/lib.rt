@@ -58,7 +58,7 @@ pub fn compare_pair(x: &[u8], y: &[u8], n: usize, a: usize, b: usize) -> Result<
     let mut ahead = 0;
     for p in 0..n {
         let s = answer_at(x, y, n, a, b, p);
-        // The papers ask for `let .. else` at the unrelated case, where a `match` would do.
+        // Document 01 asks for `let .. else` at the unrelated case.
         let (SliceAnswer::Level | SliceAnswer::Behind | SliceAnswer::Ahead) = s else {
             return Err(Refusal::UnrelatedSlice);
         };

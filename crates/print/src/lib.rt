@@ -1,5 +1,6 @@
 // What the program prints, put into lent room as far as it goes: text, numbers in decimal, answers, lines. Places stay far below what a
-// word holds, so that no sum wraps. An answer takes at most 11 bytes.
+// word holds, so that no sum wraps. An answer takes at most 11 bytes. Room and place are two parameters, as `put_fixed` and
+// `put_line_fixed` of demands read them.
 #![tactic(auto)]
 
 ghost use Rattle.std.specs.Prelude.{◌≡◌, ◌+◌, ◌^◌, ◌<◌, ◌≤◌, length};

@@ -33,6 +33,7 @@ fn rows_in(r: &[u8], n: usize, own: usize) -> Rows
     let mut cells = [0xFF; 512];
     for i in 0..64 {
         if let Some(row) = room_row(r, n, i) {
+            // At most 8: `try_from` would have an Err that cannot come.
             lengths[i] = row.len() as u8;
             parts::copy(&mut cells, i * 8, row);
         }

@@ -69,6 +69,7 @@ pub fn put_header(r: &mut [u8], n: usize, own: usize)
     requires { (4 ≤ length r.old) × (n ≤ 8) × (own < n) }
     ensures { r.new ≡ written 0 (header_bytes n own (λ p k. [])) r.old }
 {
+    // Both are at most 8: `try_from` would have an Err that cannot come.
     let header = [MARK[0], MARK[1], n as u8, own as u8];
     parts::copy(r, 0, &header);
 }

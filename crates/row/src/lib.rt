@@ -1,4 +1,5 @@
 // One row of a slice: which symbols stand in it and where. Each promise cites document 01's definitions of crate model.
+// N's bounds are clauses, as in `record`.
 #![tactic(auto)]
 
 ghost use Rattle.std.specs.Prelude.{◌≡◌, ◌++◌, ◌+◌, ◌-◌, ◌<◌, ◌≤◌, length, get_or, take, replicate};
@@ -43,6 +44,7 @@ pub fn write_row(dst: &mut [u8], n: usize, l: &[u8])
     requires { (n ≤ 8) × (length dst.old ≡ n + 1) × (length l.now ≤ n) }
     ensures { dst.new ≡ row_bytes n l.now }
 {
+    // At most 8 symbols stand in a row: `try_from` would have an Err that cannot come.
     dst[0] = l.len() as u8;
     parts::copy(dst, 1, l);
     dst[1 + l.len()..].fill(0xFF);
@@ -61,6 +63,7 @@ pub fn cut_row(w: &[u8], hs: &[u8]) -> [u8; 9]
             row[m] = s;
         }
     }
+    // At most 8, as above.
     row[0] = m as u8;
     row
 }

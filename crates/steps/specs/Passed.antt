@@ -11,7 +11,7 @@ use Rattle.model.specs.Calls.{table_reasons, lend_says, lend_reasons, update_rea
 use Rattle.facts.specs.Numbers.{→none}
 use Rattle.laws.specs.Reasons.{accepted-answer, answer_now, answer_later, answer-own, ordered_done}
 use Rattle.laws.specs.WellFormed.{WellTable}
-use Rattle.laws.specs.Accepted.{Related, update-accepted→, compare-accepted→}
+use Rattle.laws.specs.Accepted.{Related, update-accepted→, meet-accepted→, compare-accepted→}
 
 -- An update is refused as a lending is.
 pub update_lends : (t : List ℕ) (p : ℕ) → lend_says t p ≡ update_says t p
@@ -21,6 +21,10 @@ update_lends t p = refl
 pub update-passed : (t : List ℕ) (p : ℕ) → update_says t p ≡ done → WellTable (copies_in t) t × (p < copies_in t)
 unfolding update_says
 update-passed t p e = update-accepted→ t p (accepted-answer (update_reasons t p) done refl e)
+
+pub meet-passed : (t : List ℕ) (a b : ℕ) → meet_says t a b ≡ done → Related (copies_in t) t a b × (a ≡ b → ⊥)
+unfolding meet_says
+meet-passed t a b e = meet-accepted→ t a b (accepted-answer (meet_reasons t a b) done refl e)
 
 pub compare-passed : (t : List ℕ) (a b : ℕ) {k : ℕ} → compare_says t a b ≡ ordered k → Related (copies_in t) t a b
 unfolding compare_says

@@ -1,5 +1,6 @@
 // The symbols of a row as the bits of a word: whether a row is well formed, and which symbol is free. Each promise cites document 01's
 // definitions of crate model.
+// N's bounds are clauses, as in `record`.
 #![tactic(auto)]
 
 ghost use Rattle.std.specs.Prelude.{◌≡◌, ◌+◌, ◌≤◌, length};
@@ -13,10 +14,12 @@ pub fn symbols_formed(l: &[u8], n: usize) -> bool
     requires { n ≤ 8 }
     ensures { result ≡ symbols_are_formed n l.now }
 {
+    // At most 64: a `try_from` would have an Err that cannot come.
     let limit = (n * n) as u8;
     let mut seen: u64 = 0;
     for &x in l {
         if limit <= x || (seen >> x) & 1 == 1 {
+            // No `all`: of a closure that changes `seen` a proof knows nothing afterwards.
             return false;
         }
         seen |= 1 << x;

@@ -1,4 +1,5 @@
 // The calls on a table that only read it: check, compare, lend, superfluous copies. None asks anything of its input.
+// N's bounds are clauses, as in `record`.
 #![tactic(auto, unfolding(model::specs::Answers::answer, model::specs::Bytes::copies_in, model::specs::Calls::form_reasons, model::specs::Calls::table_reasons, model::specs::Calls::check_says, model::specs::Calls::compare_reasons, model::specs::Calls::compare_says, model::specs::Calls::lend_reasons, model::specs::Calls::lend_says, model::specs::Calls::superfluous_reasons, model::specs::Calls::superfluous_says, record::specs::Told::header_reasons))]
 
 ghost use Rattle.std.specs.Prelude.{◌≡◌, ◌||◌, [], ◌∷◌, ◌+◌, ◌≤◌, ◌<◌, length, leb};
@@ -87,6 +88,7 @@ pub fn list_superfluous(t: &[u8]) -> Result<Copies, Refusal>
     let mask = superfluous::superfluous_mask(t, usize::from(t[2]))?;
     Ok(Copies {
         mask,
+        // At most 8: `try_from` would have an Err that cannot come.
         count: mask.count_ones() as u8,
     })
 }

@@ -54,7 +54,8 @@ pub fn new_row(s: &[u8], n: usize, p: usize) -> [u8; 9]
     in_front(x, kept)
 }
 
-// Row p of slice p of a record is written into its place: the first n cells of a row of 8.
+// Row p of slice p of a record is written into its place: the first n cells of a row of 8. What it shares with `meeting::put_slice` is
+// `parts::copy`.
 pub fn put_row(r: &mut [u8], n: usize, p: usize, row: &[u8])
     requires { (n ≤ 8) × (length r.old ≡ record_size n) × (p < n) × (row_size n ≤ length row.now) }
     ensures { r.new ≡ written (own_place n p) (take (row_size n) row.now) r.old }

@@ -1,4 +1,5 @@
 // Rows written into a lent buffer as one loose record. The promise of write_rows cites document 01's definitions of crate model.
+// N's bounds are clauses, as in `record`.
 #![tactic(auto)]
 
 ghost use Rattle.std.specs.Prelude.{◌≡◌, [], ◌∷◌, ◌<◌, ◌≤◌, length, take, IsTrue};
@@ -11,7 +12,7 @@ ghost use Rattle.model.specs.Promises.{Owed};
 use model::{Refusal, Rows};
 
 // Slice p of the record that would be written: for each row its length and the first N cells of its room. It stands in the front of an
-// array, as there is no heap.
+// array: an `ArrayVec` takes bytes by calls with an Err that cannot come, and is no plainer.
 fn slice_passed(rows: &Rows, p: usize) -> [u8; 72]
     requires { (rows.now.n ≤ 8) × (p < rows.now.n) }
     ensures { take (slice_size rows.now.n) result ≡ join rows.now.n (row_passed rows.now p) }
