@@ -22,13 +22,13 @@ use Rattle.desk.specs.Desk.{size_with_n, room_for, call_says, call_leaves}
 pub table_most : (n : ℕ) → n ≤ 8 → table_size n ≤ 4640
 table_most n few = let r : record_size n ≤ 580 = omega (arith, sizes n few) in mul-le-mul few r
 
-pub size_out : (n : ℕ) → is_in_range n ≡ false → size_with_n 0 n ≡ 0
+pub size_out : (old n : ℕ) → is_in_range n ≡ false → size_with_n old n ≡ old
 unfolding size_with_n
-size_out n e = rw e
+size_out old n e = rw e
 
-pub size_in : (n : ℕ) → is_in_range n ≡ true → size_with_n 0 n ≡ table_size n
+pub size_in : (old n : ℕ) → is_in_range n ≡ true → size_with_n old n ≡ table_size n
 unfolding size_with_n
-size_in n e = rw e
+size_in old n e = rw e
 
 -- ---- What a call says and leaves of the table
 

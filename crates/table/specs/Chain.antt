@@ -1,5 +1,5 @@
 -- Behind a check that passed the other reasons decide, and two copy numbers below N are no reason. Assumes nothing.
-use Rattle.std.specs.Prelude.{◌≡◌, refl, ◌||◌, List, [], ◌∷◌, ◌++◌, ℕ, ◌<◌, leb}
+use Rattle.std.specs.Prelude.{◌≡◌, refl, Bool, false, ◌||◌, List, [], ◌∷◌, ◌++◌, ℕ, ◌<◌, leb}
 use Rattle.std.proofs.Common.{sym, ◌∙◌}
 use borrow.Author.Tests.{lt-leb}
 use Rattle.model.specs.Answers.{Said, done, Reason, refuse, answer}
@@ -12,6 +12,9 @@ pub decided_behind : (t : List ℕ) (m : List Reason) (a : Said) → Owed (check
 unfolding check_says
 decided_behind t m a o e = record { answers = e ∙ sym (answer-behind (table_reasons t) m a (sym o.answers)); bytes = refl }
 
-pub both_low : (n a b k : ℕ) (l : List Reason) (s : Said) → a < n → b < n → answer (refuse (leb n a || leb n b) k ∷ l) s ≡ answer l s
+pub both_low : (x y : Bool) (k : ℕ) (l : List Reason) (a : Said) → x ≡ false → y ≡ false → answer (refuse (x || y) k ∷ l) a ≡ answer l a
 unfolding answer
-both_low n a b k l s h i = rw (lt-leb n a h, lt-leb n b i)
+both_low x y k l a e f = rw (e, f)
+
+pub numbers_low : (n a b k : ℕ) (l : List Reason) (s : Said) → a < n → b < n → answer (refuse (leb n a || leb n b) k ∷ l) s ≡ answer l s
+numbers_low n a b k l s h i = both_low (leb n a) (leb n b) k l s (lt-leb n a h) (lt-leb n b i)
