@@ -89,7 +89,7 @@ room_accepts n = go (is_in_range n)
     go true = rw (length-replicate {0} {A = ℕ} (table_size n) 0, eq-eqb (table_size n) (table_size n) refl)
     go false = refl
 
-pub room_answers : (n : ℕ) → fresh_says (room_for n) n ≡ cond (is_in_range n) done (refused 2)
+room_answers : (n : ℕ) → fresh_says (room_for n) n ≡ cond (is_in_range n) done (refused 2)
 unfolding fresh_says answer fresh_reasons room_for size_with_n
 room_answers n = go (is_in_range n)
   where
@@ -106,7 +106,7 @@ module _ (s n size : ℕ) (before last : List ℕ) {said : Said} (sized : s ≡ 
       reasons_same n (take s before) (replicate (size_with_n 0 n) 0)
       (length-take-le s before fits ∙ sized ∙ sym (length-replicate {0} {A = ℕ} (size_with_n 0 n) 0))
 
-  pub fresh_answers : said ≡ fresh_says (room_for n) n
+  fresh_answers : said ≡ fresh_says (room_for n) n
   unfolding fresh_says
   fresh_answers = owed.answers ∙ rw room_same
 
@@ -133,3 +133,30 @@ module _ (s n size : ℕ) (before last : List ℕ) {said : Said} (sized : s ≡ 
       go false e d =
           let none : s ≡ 0 = sized ∙ (unfold size_with_n in rw e) in
           rw (room_accepts n, e) (ap (take size) (all_of s none (lent_rest s before fits long owed)))
+
+-- A buffer that is renewed says and leaves what the call does.
+module _ {n : ℕ} {before after : List ℕ} {said : Said} (long : length before ≡ 4640) (r : Renewed n before after said) (size : ℕ) where
+  front_same : fresh_reasons (take (size_with_n 0 n) before) n ≡ fresh_reasons (room_for n) n
+  unfolding room_for
+  front_same =
+      reasons_same n (take (size_with_n 0 n) before) (replicate (size_with_n 0 n) 0)
+      (length-take-le (size_with_n 0 n) before (omega (arith, r.fits)) ∙ sym (length-replicate {0} {A = ℕ} (size_with_n 0 n) 0))
+
+  pub renewed_says : said ≡ call_says (take size before) (Some (Fresh n))
+  unfolding call_says fresh_says
+  renewed_says = r.says ∙ rw front_same
+
+  pub renewed_leaves : take (size_with_n size n) after ≡ call_leaves (take size before) (Some (Fresh n))
+  unfolding call_leaves fresh_leaves leave
+  renewed_leaves = go (is_in_range n) refl
+    where
+      go : (b : Bool) → is_in_range n ≡ b
+          → take (size_with_n size n) after
+          ≡ cond (accepted (fresh_reasons (room_for n) n)) (cond (accepted (fresh_reasons (room_for n) n)) (table_bytes n fresh_rows) (room_for n)) (take size before)
+      go true e =
+          let same : size_with_n size n ≡ size_with_n 0 n = size_in size n e ∙ sym (size_in 0 n e) in
+          rw (same, r.front, front_same, room_accepts n, e)
+      go false e =
+          let none : size_with_n 0 n ≡ 0 = size_out 0 n e in
+          let kept : size_with_n size n ≡ size = size_out size n e in
+          rw (kept, room_accepts n, e) (ap (take size) (rw none at r.rest))

@@ -96,7 +96,7 @@ impl Table {
         }
     }
 
-    // Line k: it is read, called, and its answer put out from `at` on; the place behind it.
+    // Line k: it is read, called, and its answer put out from `at` on; the place behind it. `out` and `at` are what `print` takes.
     fn answer_line(&mut self, line: &[u8], k: usize, out: &mut [u8], at: usize) -> usize
         requires { (k < 100000) × (at ≤ 2 ^ 30) × (self.old.size ≤ 4640) }
         ensures fits { self.new.size ≤ 4640 }

@@ -91,6 +91,7 @@ pub extern "C" fn stamp_lend(t: &[u8], i: usize, start: &mut usize, size: &mut u
 pub extern "C" fn stamp_superfluous(t: &[u8], mask: &mut u8, count: &mut u8) -> u8
     ensures { Exported (superfluous_says t.now) (given (superfluous_says t.now) (mask.old ∷ count.old ∷ []) (values (superfluous_says t.now))) [] result (mask.new ∷ count.new ∷ []) [] }
 {
+    // A closure that sets the out-parameters would be longer than this `match`.
     match table::list_superfluous(t) {
         Ok(copies) => {
             *mask = copies.mask;
@@ -136,6 +137,7 @@ pub extern "C" fn stamp_read_rows(
 ) -> u8
     ensures { Exported (read_says r.now) (given (read_says r.now) (n.old ∷ own.old ∷ []) ((read_gives r.now).n ∷ (read_gives r.now).own ∷ [])) (given (read_says r.now) (lengths.old ∷ cells.old ∷ []) ((read_gives r.now).lengths ∷ (read_gives r.now).cells ∷ [])) result (n.new ∷ own.new ∷ []) (lengths.new ∷ cells.new ∷ []) }
 {
+    // A closure that sets the out-parameters would be longer than this `match`.
     match reading::read_rows(r) {
         Ok(rows) => {
             *n = rows.n;

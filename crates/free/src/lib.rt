@@ -22,8 +22,8 @@ fn used(s: &[u8], n: usize) -> u64
     w
 }
 
-// The new symbol of an update: the smallest that stands in no row of the slice, which is the lowest bit not set; N² where each is, as
-// `new_symbol` says. It is at most 64: `try_from` would have an Err that cannot come.
+// The new symbol of an update: the smallest that stands in no row of the slice, which is the lowest bit not set; N² where each is. It
+// cannot fail: `free_symbol_fixed` of demands reads its promise. It is at most 64: `try_from` would have an Err that cannot come.
 pub fn free_symbol(s: &[u8], n: usize) -> u8
     requires { Ranged n s.now }
     ensures { result ≡ new_symbol n (row_in_slice n s.now) }

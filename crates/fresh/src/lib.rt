@@ -23,7 +23,7 @@ fn repeat(dst: &mut [u8], at: usize, src: &[u8], n: usize)
     }
 }
 
-// A fresh slice, in the front of 72 bytes. An `ArrayVec` takes bytes by calls with an Err that cannot come, and is no plainer.
+// A fresh slice, in the front of 72 bytes. An `ArrayVec` would be filled by a push for each byte, and is no plainer.
 fn fresh_slice(n: usize) -> [u8; 72]
     requires { (1 ≤ n) × (n ≤ 8) }
     ensures { take (slice_size n) result ≡ slice_bytes n (λ k. 0 ∷ []) }
@@ -51,6 +51,7 @@ fn fresh_records(t: &mut [u8], n: usize)
 {
     let w = record::record_len(n);
     for own in 0..n {
+        // A function that hands back a `&mut` part would need a clause on the loan, and save this expression.
         fresh_record(&mut t[own * w..own * w + w], n, own);
     }
 }

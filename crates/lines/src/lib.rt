@@ -16,7 +16,8 @@ pub enum Command {
     Superfluous,
 }
 
-// How many bytes stand in front of the first `sep`; all of them where there is none.
+// How many bytes stand in front of the first `sep`; all of them where there is none. It cannot fail: `place_of_fixed` of demands reads
+// its promise.
 pub fn place_of(s: &[u8], sep: u8) -> usize
     ensures { Placed sep s.now result }
 {

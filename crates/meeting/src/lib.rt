@@ -1,5 +1,5 @@
 // The meeting of two records, written over them, slice by slice. Both new slices are there by value before one byte is written. The
-// clauses stay by `put_slice_fixed` and `meet_pair_fixed` of demands.
+// clauses are read by `put_slice_fixed` and `meet_pair_fixed` of demands.
 #![tactic(auto)]
 
 ghost use Rattle.std.specs.Prelude.{◌≡◌, ◌+◌, ◌*◌, ◌<◌, ◌≤◌, length};

@@ -94,7 +94,7 @@ impl<'a> Sides<'a> {
 }
 
 // Slice p of both records after their meeting, a's and b's: every head and row of it is read here, and nothing is written. Its
-// parameters and two arrays stay by `met_fixed` of demands.
+// parameters and two arrays are read by `met_fixed` of demands.
 #[tactic(auto, using(crate::specs::NewRows::winning_length))]
 pub fn met(x: &[u8], y: &[u8], n: usize, a: usize, b: usize, p: usize) -> ([u8; 72], [u8; 72])
     requires { PairShown n a b x.now y.now × (p < n) }

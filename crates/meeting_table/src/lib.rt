@@ -15,6 +15,7 @@ pub fn meet_in(t: &mut [u8], n: usize, a: usize, b: usize)
     let size = record::record_len(n);
     let low = a.min(b) * size;
     let (front, back) = t.split_at_mut(a.max(b) * size);
+    // As in `fresh` and `updating`, a function for such a part would need a clause on the loan.
     let lower = &mut front[low..low + size];
     let upper = &mut back[..size];
     if a < b {

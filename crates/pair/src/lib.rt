@@ -87,10 +87,9 @@ pub fn winning<'a>(x: &'a [u8], y: &'a [u8], n: usize, a: usize, b: usize, p: us
         (winning_row a b (record_rows n x.now p) (record_rows n y.now p))
         result.ref_ptr result.now }
 {
-    let (of_a, of_b) = (slice::row_of(x, n, p, a), slice::row_of(y, n, p, b));
-    if row::among(of_b, of_a[0]) {
-        of_b
+    if b_wins(x, y, n, a, b, p) {
+        slice::row_of(y, n, p, b)
     } else {
-        of_a
+        slice::row_of(x, n, p, a)
     }
 }

@@ -37,6 +37,7 @@ fn put_number(out: &mut [u8], at: usize, n: usize) -> usize
     ensures { Put (decimal n) at out.old out.new result }
 {
     let mut digits = [0u8; 20];
+    // std has no `From<usize> for u64`.
     let k = io::decimal(n as u64, &mut digits);
     put(out, at, &digits[..k])
 }

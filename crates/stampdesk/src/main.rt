@@ -22,7 +22,7 @@ fn read_all(input: &mut Stdin, buf: &mut [u8]) -> io::Result<usize>
     Ok(done)
 }
 
-// Room that the proofs know by its length alone: a literal of this size in `main` would be counted, past what the check can do.
+// Room, as there is no heap, that the proofs know by its length alone: a literal of this size in `main` would be counted, past what the check can do.
 fn zeros<const N: usize>() -> [u8; N]
     ensures { N ≡ length result }
 {

@@ -1,4 +1,4 @@
-// The superfluous copies of a checked table, as a mask. The clause stays by `superfluous_mask_fixed` of demands.
+// The superfluous copies of a checked table, as a mask. The clause is read by `superfluous_mask_fixed` of demands.
 #![tactic(auto)]
 
 ghost use Rattle.std.specs.Prelude.{◌≡◌};

@@ -1,5 +1,5 @@
 // The update of one copy of a checked table, in place: the new row is there by value before one byte is written. The promises on lent
-// bytes, and a row as 9 bytes, stay by `new_row_fixed`, `put_row_fixed` and `update_in_fixed` of demands.
+// bytes, and a row as 9 bytes, are read by `new_row_fixed`, `put_row_fixed` and `update_in_fixed` of demands.
 #![tactic(auto)]
 
 ghost use Rattle.std.specs.Prelude.{◌≡◌, ◌∷◌, ◌+◌, ◌-◌, ◌<◌, ◌≤◌, length, get_or, take};
@@ -61,7 +61,7 @@ pub fn put_row(r: &mut [u8], n: usize, p: usize, row: &[u8])
     ensures { r.new ≡ written (own_place n p) (take (row_size n) row.now) r.old }
 {
     let w = n + 1;
-    let at = 4 + p * (n * w) + p * w;
+    let at = 4 + p * slice::slice_len(n) + p * w;
     parts::copy(r, at, &row[..w]);
 }
 
@@ -71,6 +71,7 @@ pub fn update_in(t: &mut [u8], n: usize, p: usize)
     ensures { t.new ≡ table_bytes n (updated_table n p (table_rows n t.old)) }
 {
     let size = record::record_len(n);
+    // A function that hands back a `&mut` part would need a clause on the loan, and save this expression.
     let r = &mut t[p * size..p * size + size];
     let row = new_row(slice::slice_at(r, n, p), n, p);
     put_row(r, n, p, &row);

@@ -12,7 +12,7 @@ ghost use Rattle.model.specs.Promises.{Owed};
 use model::{Refusal, Rows};
 
 // Slice p of the record that would be written: for each row its length and the first N cells of its room. It stands in the front of an
-// array: an `ArrayVec` takes bytes by calls with an Err that cannot come, and is no plainer.
+// array: an `ArrayVec` would be filled by a push for each byte, and is no plainer.
 fn slice_passed(rows: &Rows, p: usize) -> [u8; 72]
     requires { (rows.now.n ≤ 8) × (p < rows.now.n) }
     ensures { take (slice_size rows.now.n) result ≡ join rows.now.n (row_passed rows.now p) }
@@ -48,6 +48,7 @@ fn put_record(r: &mut [u8], rows: &Rows)
     record::put_header(r, n, rows.own);
     let w = slice::slice_len(n);
     for p in 0..n {
+        // As `meeting::put_slice`, which stands above this crate: one line each.
         parts::copy(r, 4 + p * w, &slice_passed(rows, p)[..w]);
     }
 }
