@@ -52,9 +52,6 @@ module _ (s : ℕ) (before : List ℕ) {last : List ℕ} {answer : Said} {leaves
   pub lent_rest : drop s (last ++ drop s before) ≡ drop s before
   lent_rest = drop_at last (drop s before) s came_back
 
-all_of : (s : ℕ) {x y : List ℕ} → s ≡ 0 → drop s x ≡ drop s y → x ≡ y
-all_of s none e = rw none at e
-
 -- ---- `I n`
 
 -- `I n` in the front of the buffer, where N is 2 to 8.
@@ -89,7 +86,7 @@ room_accepts n = go (is_in_range n)
     go true = rw (length-replicate {0} {A = ℕ} (table_size n) 0, eq-eqb (table_size n) (table_size n) refl)
     go false = refl
 
-room_answers : (n : ℕ) → fresh_says (room_for n) n ≡ cond (is_in_range n) done (refused 2)
+pub room_answers : (n : ℕ) → fresh_says (room_for n) n ≡ cond (is_in_range n) done (refused 2)
 unfolding fresh_says answer fresh_reasons room_for size_with_n
 room_answers n = go (is_in_range n)
   where
@@ -97,54 +94,17 @@ room_answers n = go (is_in_range n)
     go true = rw (length-replicate {0} {A = ℕ} (table_size n) 0, eq-eqb (table_size n) (table_size n) refl)
     go false = refl
 
--- The front of the buffer was lent to `fresh` and came back as `last`: its answer, and the table of `size` bytes or the fresh one.
-module _ (s n size : ℕ) (before last : List ℕ) {said : Said} (sized : s ≡ size_with_n 0 n) (fits : s ≤ length before) (long : length last ≡ length (take s before))
-    (owed : Owed (fresh_says (take s before) n) (fresh_leaves (take s before) n ∷ []) said (last ∷ [])) where
-  room_same : fresh_reasons (take s before) n ≡ fresh_reasons (room_for n) n
-  unfolding room_for
-  room_same =
-      reasons_same n (take s before) (replicate (size_with_n 0 n) 0)
-      (length-take-le s before fits ∙ sized ∙ sym (length-replicate {0} {A = ℕ} (size_with_n 0 n) 0))
-
-  fresh_answers : said ≡ fresh_says (room_for n) n
-  unfolding fresh_says
-  fresh_answers = owed.answers ∙ rw room_same
-
-  -- Where it is done, the fresh table stands in the front.
-  pub renewed_done : said ≡ done → Kept (Some (Fresh n)) (take size before) (take s (last ++ drop s before)) said
-  unfolding call_says call_leaves fresh_leaves leave
-  renewed_done e = record { says = fresh_answers; leaves = go (is_in_range n) refl (sym e ∙ fresh_answers ∙ room_answers n) }
-    where
-      go : (b : Bool) → is_in_range n ≡ b → done ≡ cond (is_in_range n) done (refused 2)
-          → take s (last ++ drop s before)
-          ≡ cond (accepted (fresh_reasons (room_for n) n)) (cond (accepted (fresh_reasons (room_for n) n)) (table_bytes n fresh_rows) (room_for n)) (take size before)
-      go true e d = rw (lent_front s before fits long owed, room_same, room_accepts n, e)
-      go false e d = absurd (let x : done ≡ refused 2 = rw e at d in cc)
-
-  -- Where it is refused, the old one.
-  pub renewed_refused : (k : ℕ) → said ≡ refused k → Kept (Some (Fresh n)) (take size before) (take size (last ++ drop s before)) said
-  unfolding call_says call_leaves leave
-  renewed_refused k e = record { says = fresh_answers; leaves = go (is_in_range n) refl (sym e ∙ fresh_answers ∙ room_answers n) }
-    where
-      go : (b : Bool) → is_in_range n ≡ b → refused k ≡ cond (is_in_range n) done (refused 2)
-          → take size (last ++ drop s before)
-          ≡ cond (accepted (fresh_reasons (room_for n) n)) (fresh_leaves (room_for n) n) (take size before)
-      go true e d = absurd (let x : refused k ≡ done = rw e at d in cc)
-      go false e d =
-          let none : s ≡ 0 = sized ∙ (unfold size_with_n in rw e) in
-          rw (room_accepts n, e) (ap (take size) (all_of s none (lent_rest s before fits long owed)))
-
 -- A buffer that is renewed says and leaves what the call does.
 module _ {n : ℕ} {before after : List ℕ} {said : Said} (long : length before ≡ 4640) (r : Renewed n before after said) (size : ℕ) where
-  front_same : fresh_reasons (take (size_with_n 0 n) before) n ≡ fresh_reasons (room_for n) n
+  room_same : fresh_reasons (take (size_with_n 0 n) before) n ≡ fresh_reasons (room_for n) n
   unfolding room_for
-  front_same =
+  room_same =
       reasons_same n (take (size_with_n 0 n) before) (replicate (size_with_n 0 n) 0)
       (length-take-le (size_with_n 0 n) before (omega (arith, r.fits)) ∙ sym (length-replicate {0} {A = ℕ} (size_with_n 0 n) 0))
 
   pub renewed_says : said ≡ call_says (take size before) (Some (Fresh n))
   unfolding call_says fresh_says
-  renewed_says = r.says ∙ rw front_same
+  renewed_says = r.says ∙ rw room_same
 
   pub renewed_leaves : take (size_with_n size n) after ≡ call_leaves (take size before) (Some (Fresh n))
   unfolding call_leaves fresh_leaves leave
@@ -155,7 +115,7 @@ module _ {n : ℕ} {before after : List ℕ} {said : Said} (long : length before
           ≡ cond (accepted (fresh_reasons (room_for n) n)) (cond (accepted (fresh_reasons (room_for n) n)) (table_bytes n fresh_rows) (room_for n)) (take size before)
       go true e =
           let same : size_with_n size n ≡ size_with_n 0 n = size_in size n e ∙ sym (size_in 0 n e) in
-          rw (same, r.front, front_same, room_accepts n, e)
+          rw (same, r.front, room_same, room_accepts n, e)
       go false e =
           let none : size_with_n 0 n ≡ 0 = size_out 0 n e in
           let kept : size_with_n size n ≡ size = size_out size n e in
