@@ -142,7 +142,7 @@ write_rows_serves κs = record { takes = λ a. tt; owes = λ a r s p. p }
 pub write_rows_determined : (κs : Lfts 1) → Determined (write_rows κs)
 write_rows_determined κs = determined (write_rows κs) (write_rows_serves κs) done_once
 
--- reading::read_rows: its answer, and the rows or the blank beside a refusal
+-- reading::read_rows: its answer, and the rows, for which a refusal counts as the blank
 abbrev pub read_rows : Lfts 1 → Service
 read_rows κs = service (of·read-rows.Asked κs) (of·read-rows.Learnt κs) (λ a. Asked.read_rows a.0.now) said_read (λ s. [])
 

@@ -44,7 +44,7 @@ pub record Demand1 : Type 0 where
   pub every_call : (q : Asked) → Roomy q → Obeys (numbers_of q) (rows_of q) (says_of q) (own_of q) (lent_to q) (left_by q)
   -- 'A refused lending has the empty part', at the table's start;
   pub no_part : (t : List ℕ) (i k : ℕ) → lend_says t i ≡ refused k → (lend_gives t i ≡ []) × (lend_place t i ≡ 0)
-  -- and beside a refused reading stands the blank.
+  -- and a refused reading counts as the blank: it answers the refusal alone.
   pub no_rows : (r : List ℕ) (k : ℕ) → read_says r ≡ refused k → read_gives r ≡ blank_rows
 
 pub demand_1 : Demand1

@@ -29,6 +29,7 @@ use Rattle.pair.proofs.compare_pair.Reads as of·compare-pair
 use Rattle.pair.proofs.b_wins.Reads as of·b-wins
 use Rattle.symbols.proofs.symbols_formed.Reads as of·symbols-formed
 use Rattle.symbols.proofs.row_formed.Reads as of·row-formed
+use Rattle.symbols.proofs.mark.Reads as of·mark
 use Rattle.copies.proofs.record_at.Reads as of·record-at
 use Rattle.copies.proofs.compare_copies.Reads as of·compare-copies
 use Rattle.copies.proofs.against_others.Reads as of·against-others
@@ -128,6 +129,9 @@ symbols_formed_fixed κs a r r' s s' p q = p ∙ sym q
 
 pub row_formed_fixed : (κs : Lfts 1) → Fixed (of·row-formed.Learnt κs) (λ r s. r)
 row_formed_fixed κs a r r' s s' p q = p ∙ sym q
+
+pub mark_fixed : (κs : Lfts 1) → Fixed (of·mark.Learnt κs) (λ r s. r)
+mark_fixed κs a r r' s s' p q = p ∙ sym q
 
 -- ---- copies
 
