@@ -114,7 +114,7 @@ pub lend_refused : (t : List ℕ) (i k : ℕ) → lend_says t i ≡ refused k �
 unfolding lend_says lend_gives lend_place
 lend_refused t i k e = (refused_leaves (lend_reasons t i) done [] _ k refl e, refused_leaves (lend_reasons t i) done 0 _ k refl e)
 
--- Beside a refused reading stands the blank.
+-- A refused reading counts as the blank.
 pub read_refused : (r : List ℕ) (k : ℕ) → read_says r ≡ refused k → read_gives r ≡ blank_rows
 unfolding read_says read_gives
 read_refused r k = refused_leaves (record_reasons r) done blank_rows _ k refl

@@ -17,7 +17,7 @@ pub owed_once : {answer : Said} {leaves : List (List ℕ)} {said said' : Said} {
     → Owed answer leaves said lent → Owed answer leaves said' lent' → (said ≡ said') × (lent ≡ lent')
 owed_once x y = (x.answers ∙ sym y.answers, x.bytes ∙ sym y.bytes)
 
--- What a reading says, and its rows; beside a refusal stands the blank.
+-- What a reading says, and its rows, for which a refusal counts as the blank.
 abbrev pub said_read : Result Rows Refusal → Said
 said_read = said (λ _. done)
 
